@@ -1,0 +1,40 @@
+-- Laws of shifts and bits.
+use Prim.Native.Nat.{_%_, _*_, _+_, _/_, _<_, suc, zero, ℕ}
+use borrow.Author.Tests.{eqb-false, eqb-true}
+use mathlib.Core.Bool.{Bool, cond, false, true}
+use mathlib.Core.Path.{_≡_, refl}
+use native.Mathlib.Omega.{arith}
+use Rattle.arithmetic.specs.Bits.{bit-length, odd, shl}
+
+pub shl-zero : (o : ℕ) → shl o 0 ≡ 0
+shl-zero zero = refl
+shl-zero (suc o) = omega (arith, shl-zero o)
+
+pub shl-add : (o x y : ℕ) → shl o (x + y) ≡ shl o x + shl o y
+shl-add zero x y = refl
+shl-add (suc o) x y = omega (arith, shl-add o x y)
+
+pub shl-twice : (o x : ℕ) → shl o (2 * x) ≡ 2 * shl o x
+shl-twice zero x = refl
+shl-twice (suc o) x = omega (arith, shl-twice o x)
+
+pub shl-mul : (o k x : ℕ) → shl o (k * x) ≡ k * shl o x
+shl-mul zero k x = refl
+shl-mul (suc o) k x = omega (arith, shl-mul o k x)
+
+pub shl-none : (o x : ℕ) → shl o x ≡ 0 → x ≡ 0
+shl-none zero x e = e
+shl-none (suc o) x e = shl-none o x (omega arith)
+
+-- a number by its lowest bit
+pub low-bit : (k : ℕ) → k ≡ cond (odd k) 1 0 + 2 * (k / 2)
+low-bit k = go (odd k) refl
+  where
+    go : (t : Bool) → odd k ≡ t → k ≡ cond t 1 0 + 2 * (k / 2)
+    go true q = omega (arith, eqb-true (k % 2) 1 q)
+    go false q = let no-one : ¬ (k % 2 ≡ 1) = eqb-false (k % 2) 1 q in omega arith
+
+bit-length-fits : (f k : ℕ) → k < shl f 1 → k < shl (bit-length f k) 1
+bit-length-fits zero k h = h
+bit-length-fits (suc f) zero h = omega arith
+bit-length-fits (suc f) (suc k) h = omega (arith, bit-length-fits f (suc k / 2) (omega arith))

@@ -1,0 +1,119 @@
+-- adder2
+use Prim.Native.Nat.{_%_, _*_, _+_, _-_, _/_, ℕ}
+use lib.Dec.{eqb, leb}
+use lib.ListN.{length}
+use mathlib.Core.Bool.{cond}
+use mathlib.Core.List.{List, [], _++_, _∷_, map}
+use mathlib.Core.Option.{Option, none, some}
+use Rattle.sat.specs.Clause.{Assignment, Clauses}
+use Rattle.sat.specs.Count.{count}
+use Rattle.sat.specs.Fresh.{fresh}
+use Rattle.sat.specs.Lit.{neg}
+use Rattle.mixed.specs.Enumerate.{bounded}
+use Rattle.mixed.specs.Terms.{Term, flip, singles, term}
+use Rattle.log_adder.specs.Gather.{Grid}
+
+-- a carry's literals fall
+abbrev pub ordering : List ℕ → Clauses
+ordering [] = []
+ordering (a ∷ []) = []
+ordering (a ∷ b ∷ ls) = (a ∷ neg b ∷ []) ∷ ordering (b ∷ ls)
+
+-- own + carry - 2 next, and the same negated
+abbrev pub eq-ge-terms : List ℕ → List ℕ → List ℕ → List Term
+eq-ge-terms own carry next = singles own ++ (term 1 carry ∷ term 2 (flip next) ∷ [])
+
+abbrev pub eq-le-terms : List ℕ → List ℕ → List ℕ → List Term
+eq-le-terms own carry next = singles (map neg own) ++ (term 1 (flip carry) ∷ term 2 next ∷ [])
+
+-- x + own + carry is at least 2 next + y, and at most
+abbrev pub eq-column-ge : List ℕ → List ℕ → ℕ → List ℕ → ℕ → Clauses
+eq-column-ge own carry x next y = bounded (eq-ge-terms own carry next) (x + length own + length carry) y
+
+abbrev pub eq-column-le : List ℕ → List ℕ → ℕ → List ℕ → ℕ → Clauses
+eq-column-le own carry x next y = bounded (eq-le-terms own carry next) (y + 2 * length next) x
+
+unfoldable pub eq-column : List ℕ → List ℕ → ℕ → List ℕ → ℕ → Clauses
+eq-column own carry x next y = eq-column-ge own carry x next y ++ eq-column-le own carry x next y
+
+-- a column but the last: its literals, and its bit of the number
+pub record EqColumn : Type 0 where
+  pub own : List ℕ
+  pub target : ℕ
+
+-- the last column: its literals and x add up to y
+pub record LastColumn : Type 0 where
+  pub own : List ℕ
+  pub plus : ℕ
+  pub target : ℕ
+
+-- the clauses sent at once, those to return, unless a column was a dead end, and the variables counted so far
+pub record Adder2Output : Type 0 where
+  pub sent : Clauses
+  pub returned : Option Clauses
+  pub vars : ℕ
+
+abbrev pub prepend : Clauses → Option Clauses → Option Clauses
+prepend cs none = none
+prepend cs (some ds) = some (cs ++ ds)
+
+abbrev pub returned-set : Option Clauses → Clauses
+returned-set none = [] ∷ []
+returned-set (some cs) = cs
+
+abbrev pub eq-carry-size : EqColumn → List ℕ → ℕ
+eq-carry-size cell carry = (length (cell .own) + length carry - cell .target) / 2
+
+abbrev pub dead-end : ℕ → Adder2Output
+dead-end v = record { sent = []; returned = none; vars = v }
+
+abbrev pub adder2 : List EqColumn → LastColumn → List ℕ → ℕ → Adder2Output
+adder2 [] last carry v =
+    record { sent = []; returned = some (eq-column (last .own) carry (last .plus) [] (last .target)); vars = v }
+adder2 (cell ∷ cells) last carry v =
+    let n = eq-carry-size cell carry in
+    let rest = adder2 cells last (fresh n v) (v + n) in
+    cond
+    (leb (cell .target) (length (cell .own) + length carry))
+    record {
+      sent = ordering (fresh n v) ++ rest .sent;
+      returned = prepend (eq-column (cell .own) carry 0 (fresh n v) (cell .target)) (rest .returned);
+      vars = rest .vars;
+    }
+    (dead-end v)
+
+-- all the clauses, in the order of the runs
+abbrev pub adder2-clauses : Adder2Output → Clauses
+adder2-clauses out = out .sent ++ returned-set (out .returned)
+
+-- what the columns add up to, and what they have to
+abbrev pub eq-value : Assignment → List EqColumn → LastColumn → ℕ
+eq-value α [] last = last .plus + count α (last .own)
+eq-value α (cell ∷ cells) last = count α (cell .own) + 2 * eq-value α cells last
+
+abbrev pub eq-target : List EqColumn → LastColumn → ℕ
+eq-target [] last = last .target
+eq-target (cell ∷ cells) last = cell .target + 2 * eq-target cells last
+
+-- columns that with x are to add up to y, one of which is 0: a bit for each but the last
+abbrev pub eq-columns : Grid → ℕ → ℕ → List EqColumn
+eq-columns [] x y = []
+eq-columns (c ∷ []) x y = []
+eq-columns (c ∷ d ∷ cols) x y = record { own = c; target = (x + y) % 2 } ∷ eq-columns (d ∷ cols) ((x + 1) / 2) (y / 2)
+
+abbrev pub last-column : Grid → ℕ → ℕ → LastColumn
+last-column [] x y = record { own = []; plus = x; target = y }
+last-column (c ∷ []) x y = record { own = c; plus = x; target = y }
+last-column (c ∷ d ∷ cols) x y = last-column (d ∷ cols) ((x + 1) / 2) (y / 2)
+
+-- the clauses sent at once, and those returned
+pub record EncodedEq : Type 0 where
+  pub sent : Clauses
+  pub returned : Clauses
+  pub vars : ℕ
+
+abbrev pub eq-adder : Grid → ℕ → ℕ → ℕ → EncodedEq
+eq-adder [] x y v = record { sent = []; returned = cond (eqb x y) [] ([] ∷ []); vars = v }
+eq-adder (c ∷ cols) x y v =
+    let out = adder2 (eq-columns (c ∷ cols) x y) (last-column (c ∷ cols) x y) [] v in
+    record { sent = out .sent; returned = returned-set (out .returned); vars = out .vars }

@@ -1,0 +1,5 @@
+pub mod Column
+pub mod Adder
+pub mod Gather
+pub mod Adder2
+pub mod PlainAdder2

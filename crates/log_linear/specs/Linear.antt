@@ -1,0 +1,77 @@
+-- linear
+use Prim.Native.Nat.{_%_, _*_, _+_, _-_, _/_, suc, zero, ℕ}
+use lib.ListN.{length}
+use mathlib.Core.Bool.{Bool, Bool·beq, cond, false, true}
+use mathlib.Core.List.{List, [], _++_, _∷_, map}
+use Rattle.arithmetic.specs.Bits.{shl}
+use Rattle.sat.specs.Clause.{Assignment}
+use Rattle.sat.specs.Encoded.{EncodedBits, EncodedRule}
+use Rattle.sat.specs.Lit.{neg}
+use Rattle.sat.specs.Number.{code-of}
+use Rattle.log_adder.specs.Adder.{AdderColumn, adder}
+use Rattle.log_adder.specs.Adder2.{EncodedEq, eq-adder}
+use Rattle.log_adder.specs.Gather.{Grid, push-scaled}
+use Rattle.log_linear.specs.Compare.{ge-first, ne-bits, none-of}
+
+-- a setting's literals, and a coefficient below 4,096 with its sign
+pub record Weighted : Type 0 where
+  pub negative : Bool
+  pub coef : ℕ
+  pub lits : List ℕ
+
+-- what the parts of one sign come to
+abbrev pub signed-sum : Bool → Assignment → List Weighted → ℕ
+signed-sum s α [] = 0
+signed-sum s α (p ∷ ps) = cond (Bool·beq s (p .negative)) (p .coef * code-of α (p .lits)) 0 + signed-sum s α ps
+
+-- Ne and Ge: the parts of one sign, in columns
+abbrev pub gather-sign : Bool → List Weighted → Grid → Grid
+gather-sign s [] grid = grid
+gather-sign s (p ∷ ps) grid = gather-sign s ps (cond (Bool·beq s (p .negative)) (push-scaled 12 (p .coef) 0 (p .lits) grid) grid)
+
+-- a constant's bits, in the columns and past them, of at most f bits
+abbrev pub with-constant : ℕ → Grid → ℕ → List AdderColumn
+with-constant f (c ∷ cols) k = record { own = c; constant = k % 2 } ∷ with-constant f cols (k / 2)
+with-constant zero [] k = []
+with-constant (suc f) [] zero = []
+with-constant (suc f) [] (suc k) = record { own = []; constant = suc k % 2 } ∷ with-constant f [] (suc k / 2)
+
+abbrev pub sign-adder : Bool → List Weighted → ℕ → ℕ → EncodedBits
+sign-adder s ps k v = adder (with-constant 32 (gather-sign s ps ([] ∷ [])) k) [] [] v
+
+-- of lists that may be empty: those of the two sums are not
+abbrev pub ge-bits : List ℕ → List ℕ → ℕ → EncodedRule
+ge-bits [] ns v = record { clauses = none-of ns; vars = v }
+ge-bits (p ∷ ps) [] v = record { clauses = (p ∷ ps) ∷ []; vars = v }
+ge-bits (p ∷ ps) (n ∷ ns) v = ge-first p ps n ns v
+
+abbrev pub compare : (List ℕ → List ℕ → ℕ → EncodedRule) → EncodedBits → (ℕ → EncodedBits) → EncodedRule
+compare test pos neg-from =
+    let neg = neg-from (pos .vars) in
+    let last = test (pos .bits) (neg .bits) (neg .vars) in
+    record { clauses = (pos .clauses ++ neg .clauses) ++ last .clauses; vars = last .vars }
+
+abbrev pub linear-ge : List Weighted → ℕ → ℕ → ℕ → EncodedRule
+linear-ge ps a b v = compare ge-bits (sign-adder false ps a v) (λ w. sign-adder true ps b w)
+
+abbrev pub linear-ne : List Weighted → ℕ → ℕ → ℕ → EncodedRule
+linear-ne ps a b v = compare (λ p n w. ne-bits p n [] w) (sign-adder false ps a v) (λ w. sign-adder true ps b w)
+
+-- Eq: a part that counts negative by its negated literals, each one less; no literal, no column
+abbrev pub positive-lits : Weighted → List ℕ
+positive-lits p = cond (p .negative) (map neg (p .lits)) (p .lits)
+
+abbrev pub push-scaled-some : ℕ → List ℕ → Grid → Grid
+push-scaled-some k [] grid = grid
+push-scaled-some k (l ∷ ls) grid = push-scaled 12 k 0 (l ∷ ls) grid
+
+abbrev pub gather : List Weighted → Grid → Grid
+gather [] grid = grid
+gather (p ∷ ps) grid = gather ps (push-scaled-some (p .coef) (positive-lits p) grid)
+
+abbrev pub negated-constant : List Weighted → ℕ
+negated-constant [] = 0
+negated-constant (p ∷ ps) = cond (p .negative) (p .coef * (shl (length (p .lits)) 1 - 1)) 0 + negated-constant ps
+
+abbrev pub linear-eq : List Weighted → ℕ → ℕ → ℕ → EncodedEq
+linear-eq ps a b v = eq-adder (gather ps []) (a - (b + negated-constant ps)) (b + negated-constant ps - a) v

@@ -1,0 +1,5 @@
+pub mod Flip
+pub mod Enumerate
+pub mod Below
+pub mod Order
+pub mod Tally

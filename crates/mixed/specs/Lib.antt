@@ -1,0 +1,4 @@
+pub mod Terms
+pub mod Enumerate
+pub mod Order
+pub mod Tally

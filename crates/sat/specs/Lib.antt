@@ -1,0 +1,7 @@
+pub mod Lit
+pub mod Clause
+pub mod Count
+pub mod Fresh
+pub mod Number
+pub mod Encodes
+pub mod Encoded
