@@ -1,10 +1,10 @@
--- Laws of shifts and bits.
-use Prim.Native.Nat.{_%_, _*_, _+_, _/_, _<_, suc, zero, ℕ}
+-- Laws of shifts, bits and bit lengths.
+use Prim.Native.Nat.{_%_, _*_, _+_, _/_, _<_, _≤_, suc, zero, ℕ}
 use borrow.Author.Tests.{eqb-false, eqb-true}
 use mathlib.Core.Bool.{Bool, cond, false, true}
 use mathlib.Core.Path.{_≡_, refl}
 use native.Mathlib.Omega.{arith}
-use Rattle.arithmetic.specs.Bits.{bit-length, odd, shl}
+use Rattle.arithmetic.specs.Bits.{bit-length, bit-length-within, odd, shl}
 
 pub shl-zero : (o : ℕ) → shl o 0 ≡ 0
 shl-zero zero = refl
@@ -34,7 +34,31 @@ low-bit k = go (odd k) refl
     go true q = omega (arith, eqb-true (k % 2) 1 q)
     go false q = let no-one : ¬ (k % 2 ≡ 1) = eqb-false (k % 2) 1 q in omega arith
 
-bit-length-fits : (f k : ℕ) → k < shl f 1 → k < shl (bit-length f k) 1
-bit-length-fits zero k h = h
-bit-length-fits (suc f) zero h = omega arith
-bit-length-fits (suc f) (suc k) h = omega (arith, bit-length-fits f (suc k / 2) (omega arith))
+-- Bit lengths --------------------------------------------------------------------------------------------------------
+
+within-fits : (f k : ℕ) → k < shl f 1 → k < shl (bit-length-within f k) 1
+within-fits zero k h = h
+within-fits (suc f) zero h = omega arith
+within-fits (suc f) (suc k) h = omega (arith, within-fits f (suc k / 2) (omega arith))
+
+-- a number is below 2 to the power of its bit length
+pub bit-length-fits : (k : ℕ) → k < 4294967296 → k < shl (bit-length k) 1
+bit-length-fits k h = within-fits 32 k h
+
+within-least : (f k n : ℕ) → k < shl n 1 → bit-length-within f k ≤ n
+within-least zero k n h = omega arith
+within-least (suc f) zero n h = omega arith
+within-least (suc f) (suc k) zero h = absurd (omega arith)
+within-least (suc f) (suc k) (suc n) h = omega (arith, within-least f (suc k / 2) n (omega arith))
+
+-- and no smaller power will do
+pub bit-length-least : (k n : ℕ) → k < shl n 1 → bit-length k ≤ n
+bit-length-least k n h = within-least 32 k n h
+
+pub within-zero : (f : ℕ) → bit-length-within f 0 ≡ 0
+within-zero zero = refl
+within-zero (suc f) = refl
+
+pub within-step : (f k : ℕ) → 0 < k → bit-length-within (suc f) k ≡ suc (bit-length-within f (k / 2))
+within-step f zero p = absurd (omega arith)
+within-step f (suc k) p = refl
