@@ -1,7 +1,7 @@
 -- Values and codes convert both ways.
-use Prim.Native.Nat.{_+_, _<_, suc, ℕ}
+use Prim.Native.Nat.{_+_, _<_, ℕ}
 use lib.Dec.{T}
-use lib.IntN.{_+ℤ_, _-ℤ_, natAbs, negsuc, negℤ, pos, ℤ}
+use lib.IntN.{_-ℤ_, natAbs, negsuc, negℤ, pos, ℤ}
 use lib.Signed.{_≤ℤ_, ltZ, mag, nonNeg}
 use mathlib.Core.Bool.{false, true, true≢false}
 use mathlib.Core.Path.{_≡_, refl}

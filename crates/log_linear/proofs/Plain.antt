@@ -160,7 +160,7 @@ plain-linear-eq-is ps k v b =
     off : weights (gather-signed ps []) ≡ negated-constant ps
     off = omega (arith, gather-signed-weights ps [] b)
 
-small : (v : ℕ) (ps : List Weighted) → WeightedBelow v ps → Small ps
+pub small : (v : ℕ) (ps : List Weighted) → WeightedBelow v ps → Small ps
 small v [] b = tt
 small v (p ∷ ps) b = (b .0 .1, small v ps (b .1))
 

@@ -1,3 +1,4 @@
 pub mod Compare
 pub mod Linear
 pub mod PlainLinear
+pub mod EncodeLinearLog

@@ -1,2 +1,2 @@
 pub mod Multiply
-pub mod Product
+pub mod EncodeMulLog

@@ -1,4 +1,5 @@
--- multiply
+-- The multiplier spells the product of two codes (`multiplier-value`), and its clauses say that the product is m
+-- (`product-encodes`).
 use Prim.Native.Nat.{_*_, _+_, _/_, _<_, _≤_, suc, ℕ}
 use lib.ListN.{drop, length}
 use mathlib.Core.Bool.{Bool, Bool·beq, So, _&&_, _||_, cond, false, not, true}
@@ -20,13 +21,13 @@ use Rattle.sat.proofs.Fresh.{fresh-below}
 use Rattle.sat.proofs.Gate.{check, gate, gate-value}
 use Rattle.sat.proofs.Lits.{bit-le, holds-neg, holds-plain, neg-below}
 use Rattle.sat.proofs.Number.{code-agree, code-append, lits-drop}
-use Rattle.log_adder.specs.Adder.{ColumnsBelow, MatchesCode, columns-value}
+use Rattle.log_adder.specs.Adder.{ColumnsBelow, MatchesCode, adder, columns-value}
 use Rattle.log_adder.specs.Gather.{Grid, GridBelow, grid-value, pad-columns, push-value}
 use Rattle.log_adder.proofs.Adder.{adder-bits, adder-encodes, adder-keeps, adder-value, matches-agree}
 use Rattle.log_adder.proofs.Gather.{grid-below-more, pad-columns-below, pad-columns-length, pad-columns-value, push-value-below, push-value-value}
 use Rattle.log_linear.specs.Compare.{none-of}
 use Rattle.log_linear.proofs.Compare.{none-of-below, none-of-sat}
-use Rattle.log_mul.specs.Multiply.{and-gate, product, product-sum, row, rows, rows-grid, rows-vars}
+use Rattle.log_mul.specs.Multiply.{and-gate, multiplier, product, row, rows, rows-grid, rows-vars}
 
 and-table : (a x y : Bool) → ((not a || (x || false)) && ((not a || (y || false)) && ((not x || (not y || (a || false))) && true))) ≡ Bool·beq a (x && y)
 and-table true true true = refl
@@ -63,9 +64,9 @@ row-value x (y ∷ ys) v α h =
     go true false e = omega arith
     go false t e = omega arith
 
-rows-room : (xs ys : List ℕ) (v : ℕ) → v ≤ rows-vars xs ys v
-rows-room [] ys v = omega arith
-rows-room (x ∷ xs) ys v = omega (arith, rows-room xs ys (v + length ys))
+rows-grows : (xs ys : List ℕ) (v : ℕ) → v ≤ rows-vars xs ys v
+rows-grows [] ys v = omega arith
+rows-grows (x ∷ xs) ys v = omega (arith, rows-grows xs ys (v + length ys))
 
 rows-encodes : (xs ys : List ℕ) (v : ℕ) → LitsBelow v xs → LitsBelow v ys → Encodes v (rows-vars xs ys v) Any Any (rows xs ys v)
 rows-encodes [] ys v a b = nothing v Any
@@ -104,7 +105,10 @@ module _ (xs ys rs : List ℕ) (v : ℕ) (a : LitsBelow v xs) (b : LitsBelow v y
   w = rows-vars xs ys v
 
   abbrev sum : EncodedBits
-  sum = product-sum xs ys rs v
+  sum = adder (pad-columns (length rs) grid) [] rs w
+
+  abbrev mul : EncodedBits
+  mul = multiplier xs ys rs v
 
   columns : (α : Assignment) → So (sat α (rows xs ys v)) → columns-value α (pad-columns (length rs) grid) ≡ code-of α xs * code-of α ys
   columns α h = pad-columns-value α (length rs) grid ∙ rows-value xs ys 0 v [] α h ∙ omega arith
@@ -113,18 +117,18 @@ module _ (xs ys rs : List ℕ) (v : ℕ) (a : LitsBelow v xs) (b : LitsBelow v y
   cols-below = pad-columns-below w (length rs) grid (rows-below xs ys 0 v [] tt)
 
   given : LitsBelow w rs
-  given = lits-below-more v w rs (rows-room xs ys v) c
+  given = lits-below-more v w rs (rows-grows xs ys v) c
 
-  pub product-value : (α : Assignment) → So (sat α (rows xs ys v ++ sum .clauses)) → code-of α (sum .bits) ≡ code-of α xs * code-of α ys
-  product-value α h =
+  pub multiplier-value : (α : Assignment) → So (sat α (mul .clauses)) → code-of α (mul .bits) ≡ code-of α xs * code-of α ys
+  multiplier-value α h =
       let parts = sat-both α (rows xs ys v) (sum .clauses) .0 h in
       adder-value (pad-columns (length rs) grid) [] rs w cols-below tt given α refl (parts .1) ∙ omega (arith, columns α (parts .0))
 
-  pub product-bits : LitsBelow (sum .vars) (sum .bits)
-  product-bits = adder-bits (pad-columns (length rs) grid) [] rs w given
+  pub multiplier-bits : LitsBelow (mul .vars) (mul .bits)
+  multiplier-bits = adder-bits (pad-columns (length rs) grid) [] rs w given
 
-  pub product-sum-encodes : Encodes v (sum .vars) Any (λ α. MatchesCode α rs (code-of α xs * code-of α ys)) (rows xs ys v ++ sum .clauses)
-  product-sum-encodes =
+  pub multiplier-encodes : Encodes v (mul .vars) Any (λ α. MatchesCode α rs (code-of α xs * code-of α ys)) (mul .clauses)
+  multiplier-encodes =
       compose
       (λ α. MatchesCode α rs (code-of α xs * code-of α ys))
       (rows-encodes xs ys v a b)
@@ -141,22 +145,22 @@ module _ (xs ys rs : List ℕ) (v : ℕ) (a : LitsBelow v xs) (b : LitsBelow v y
   product-encodes =
       compose
       (λ α. code-of α xs * code-of α ys ≡ code-of α rs)
-      product-sum-encodes
-      (check (sum .vars) Any (λ α. code-of α high ≡ 0) (none-of high)
-      (none-of-below (sum .vars) high (lits-drop (sum .vars) (length rs) (sum .bits) product-bits))
+      multiplier-encodes
+      (check (mul .vars) Any (λ α. code-of α high ≡ 0) (none-of high)
+      (none-of-below (mul .vars) high (lits-drop (mul .vars) (length rs) (mul .bits) multiplier-bits))
       (λ α. none-of-sat α high))
       (λ α β g _. tt)
       (λ α β g s. ap₂ (λ p q. p * q) (sym (code-agree v α β g xs a)) (sym (code-agree v α β g ys b)) ∙ s ∙ code-agree v α β g rs c)
       (λ α _ s. matches-self α rs _ s)
-      (λ α _ h. (tt, link α (product-value α h)))
+      (λ α _ h. (tt, link α (multiplier-value α h)))
     where
       high : List ℕ
-      high = drop (length rs) (sum .bits)
+      high = drop (length rs) (mul .bits)
 
-      whole : (α : Assignment) → code-of α (sum .bits) ≡ code-of α rs + shl (length rs) (code-of α high)
+      whole : (α : Assignment) → code-of α (mul .bits) ≡ code-of α rs + shl (length rs) (code-of α high)
       whole α = ap (code-of α) (sym (adder-keeps (pad-columns (length rs) grid) [] rs w (pad-columns-length (length rs) grid))) ∙ code-append α rs high
 
-      link : (α : Assignment) → code-of α (sum .bits) ≡ code-of α xs * code-of α ys → (code-of α xs * code-of α ys ≡ code-of α rs) ↔ (code-of α high ≡ 0)
+      link : (α : Assignment) → code-of α (mul .bits) ≡ code-of α xs * code-of α ys → (code-of α xs * code-of α ys ≡ code-of α rs) ↔ (code-of α high ≡ 0)
       link α e = (
         λ s. shl-none (length rs) (code-of α high) (omega (arith, whole α)),
         λ z. let none : shl (length rs) (code-of α high) ≡ 0 = ap (shl (length rs)) z ∙ shl-zero (length rs) in omega (arith, whole α),

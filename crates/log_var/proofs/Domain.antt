@@ -1,21 +1,17 @@
--- Domain
+-- The clauses of a range or a list bar exactly the codes of no value: `at-least-sat`, `at-most-sat`, `gaps-sat`, joined by
+-- `bounds-sat`.
 use Prim.Native.Nat.{_*_, _+_, _-_, _/_, _<_, _≤_, suc, zero, ℕ}
 use borrow.Author.Tests.{eq-eqb, eqb-false, eqb-true, le-leb, leb-false, leb-true, lt-leb, ne-eqb, not-true}
 use lib.Dec.{eqb, leb}
-use lib.IntN.{_+ℤ_, pos, ℤ}
 use lib.ListN.{length}
-use lib.Signed.{_<ℤ_, _≤ℤ_}
 use mathlib.Core.Bool.{Bool, So, _&&_, _||_, and-eq-true-iff, cond, false, not, true}
-use mathlib.Core.List.{List, [], _++_, _∷_, map}
-use mathlib.Core.Logic.{Iff·trans, _↔_, _⊎_, by-cases, inl, inr, ⊎-elim}
+use mathlib.Core.List.{List, [], _++_, _∷_}
+use mathlib.Core.Logic.{Iff·trans, _↔_, by-cases}
 use mathlib.Core.Path.{_∙_, _≡_, ap, refl, sym}
 use native.Mathlib.Decide.{decLt, ℕ-discrete}
 use native.Mathlib.Omega.{arith}
 use Rattle.arithmetic.specs.Bits.{odd, shl}
-use Rattle.arithmetic.specs.Offset.{code}
 use Rattle.arithmetic.proofs.Bits.{low-bit}
-use Rattle.arithmetic.proofs.Integers.{<ℤ-le, less-read, ≤ℤ-trans}
-use Rattle.arithmetic.proofs.Offset.{code-back, code-read}
 use Rattle.arithmetic.proofs.Tests.{and-true, eqb-same, leb-same, or-true}
 use Rattle.sat.specs.Clause.{Assignment, Clauses, clause-sat, holds, sat}
 use Rattle.sat.specs.Encodes.{ClausesBelow, LitsBelow}
@@ -24,7 +20,7 @@ use Rattle.sat.specs.Number.{code-of}
 use Rattle.sat.proofs.Clauses.{sat-append, sat-both}
 use Rattle.sat.proofs.Extend.{clauses-below-append}
 use Rattle.sat.proofs.Lits.{holds-neg, neg-below}
-use Rattle.log_var.specs.Domain.{against, at-least, at-most, domain-clauses, gap, gaps, last-of}
+use Rattle.log_var.specs.Domain.{against, at-least, at-most, domain-clauses, gap, gaps}
 
 -- the values of a list, strictly rising
 abbrev pub RisingCodes : ℕ → List ℕ → Type 0
@@ -200,18 +196,7 @@ module _ (v : ℕ) where
   gaps-below ls k [] b = tt
   gaps-below ls k (m ∷ ms) b = clauses-below-append v (gap ls (suc k) (m - suc k)) (gaps ls m ms) (gap-below ls (suc k) (m - suc k) b) (gaps-below ls m ms b)
 
--- what a call that is accepted fulfils, and the proofs use
-abbrev pub rising : ℤ → List ℤ → Type 0
-rising k [] = Unit
-rising k (m ∷ ms) = (k <ℤ m) × rising m ms
-
--- What a choice has to meet ------------------------------------------------------------------------------------------
-
-abbrev pub one-of : ℤ → ℤ → List ℤ → Type 0
-one-of z k [] = z ≡ k
-one-of z k (m ∷ ms) = (z ≡ k) ⊎ one-of z m ms
-
-bounds-sat : (α : Assignment) (ls : List ℕ) (low high : ℕ) (g : Clauses) → low < shl (length ls) 1 → high < shl (length ls) 1
+pub bounds-sat : (α : Assignment) (ls : List ℕ) (low high : ℕ) (g : Clauses) → low < shl (length ls) 1 → high < shl (length ls) 1
     → So (sat α (at-least ls low ++ (at-most ls high ++ g))) ↔ ((low ≤ code-of α ls) × (code-of α ls ≤ high) × So (sat α g))
 bounds-sat α ls low high g p q = (
   λ h.
@@ -225,35 +210,7 @@ bounds-sat α ls low high g p q = (
       ),
 )
 
-domain-below : (v : ℕ) (ls : List ℕ) (low : ℕ) (ms : List ℕ) (high : ℕ) → LitsBelow v ls → ClausesBelow v (domain-clauses ls low ms high)
+pub domain-below : (v : ℕ) (ls : List ℕ) (low : ℕ) (ms : List ℕ) (high : ℕ) → LitsBelow v ls → ClausesBelow v (domain-clauses ls low ms high)
 domain-below v ls low ms high b =
     clauses-below-append v (at-least ls low) (at-most ls high ++ gaps ls low ms) (at-least-below v ls low b)
     (clauses-below-append v (at-most ls high) (gaps ls low ms) (at-most-below v ls high b) (gaps-below v ls low ms b))
-
-codes-rise : (o k : ℤ) (ms : List ℤ) → rising k ms → o ≤ℤ k → RisingCodes (code o k) (map (code o) ms)
-codes-rise o k [] r h = tt
-codes-rise o k (m ∷ ms) r h =
-    let om = ≤ℤ-trans o k m h (<ℤ-le k m (r .0)) in
-    (omega (arith, code-read o k h, code-read o m om, less-read k m (r .0)), codes-rise o m ms (r .1) om)
-
-codes-top : (o k : ℤ) (ms : List ℤ) → last-code (code o k) (map (code o) ms) ≡ code o (last-of k ms)
-codes-top o k [] = refl
-codes-top o k (m ∷ ms) = codes-top o m ms
-
--- a number of the list, by its code
-codes-are : (o k : ℤ) (ms : List ℤ) → rising k ms → o ≤ℤ k → (z : ℤ)
-    → one-of z k ms ↔ ((c : ℕ) × So (among c (code o k) (map (code o) ms)) × (pos c +ℤ o ≡ z))
-codes-are o k [] r h z = (
-  λ e. (code o k, eq-eqb (code o k) (code o k) refl, code-back o k h ∙ sym e),
-  λ p. sym (p .2) ∙ ap (λ c. pos c +ℤ o) (eqb-true (p .0) (code o k) (p .1)) ∙ code-back o k h,
-)
-codes-are o k (m ∷ ms) r h z =
-    let ih = codes-are o m ms (r .1) (≤ℤ-trans o k m h (<ℤ-le k m (r .0))) z in (
-      ⊎-elim
-          (λ e. (code o k, among-here (code o k) (code o k) (among (code o k) (code o m) (map (code o) ms)) refl, code-back o k h ∙ sym e))
-          (λ l. let (c, a, e) = ih .0 l in (c, among-later (eqb c (code o k)) (among c (code o m) (map (code o) ms)) a, e)),
-      λ p.
-          by-cases (ℕ-discrete (p .0) (code o k))
-          (λ e. inl (sym (p .2) ∙ ap (λ c. pos c +ℤ o) e ∙ code-back o k h))
-          (λ ne. inr (ih .1 (p .0, among-rest (p .0) (code o k) (among (p .0) (code o m) (map (code o) ms)) (p .1) ne, p .2))),
-    )

@@ -1,2 +1,4 @@
 pub mod Domain
+pub mod Codes
 pub mod Binary
+pub mod EncodeVarLog

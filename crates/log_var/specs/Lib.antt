@@ -1,2 +1,5 @@
+pub mod LogEncoding
 pub mod Domain
 pub mod Binary
+pub mod EncodeVarLog
+pub mod EncodesVar

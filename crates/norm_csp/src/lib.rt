@@ -1,1 +1,1 @@
-// norm_csp
+// The plain book's settings and rules: definitions only (specs/).

@@ -1,6 +1,6 @@
 -- How many literals of a list hold.
 use Prim.Native.Nat.{_+_, suc, ℕ}
-use mathlib.Core.Bool.{cond, not}
+use mathlib.Core.Bool.{cond}
 use mathlib.Core.List.{List, [], _∷_}
 use mathlib.Core.Path.{_≡_}
 use Rattle.sat.specs.Clause.{Assignment, bit, holds}

@@ -38,10 +38,6 @@ impl Lit {
         ensures { λ r. ⌜ r .0 ≡ neg (self .0) ⌝ }
     {
         let n = self.0;
-        if n % 2 == 0 {
-            Lit(n + 1)
-        } else {
-            Lit(n - 1)
-        }
+        if n % 2 == 0 { Lit(n + 1) } else { Lit(n - 1) }
     }
 }

@@ -1,0 +1,2 @@
+pub mod Domain
+pub mod Rules

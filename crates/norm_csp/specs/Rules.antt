@@ -1,0 +1,34 @@
+-- The rules of the plain book, after `LinearLit` and `ExtraConstraint::Mul` of norm_csp/mod.rs: sums and products.
+use Prim.Native.Nat.{ℕ}
+use lib.IntN.{_*ℤ_, _+ℤ_, pos, ℤ}
+use lib.Signed.{_≤ℤ_}
+use mathlib.Core.List.{List, [], _∷_}
+use mathlib.Core.Path.{_≡_}
+
+-- document 01's operations 0 Eq, 1 Ne, 2 Ge
+pub data CmpOp : Type 0 where
+  eq ne ge : CmpOp
+
+-- a setting's number and its coefficient
+pub record LinearTerm : Type 0 where
+  pub var : ℕ
+  pub coef : ℤ
+
+-- the constant plus every coefficient times its setting's number
+abbrev pub linear-sum : (ℕ → ℤ) → ℤ → List LinearTerm → ℤ
+linear-sum number constant [] = constant
+linear-sum number constant (t ∷ ts) = t .coef *ℤ number (t .var) +ℤ linear-sum number constant ts
+
+-- 0, not 0, at least 0
+abbrev pub Compares : CmpOp → ℤ → Type 0
+Compares eq z = z ≡ pos 0
+Compares ne z = z ≡ pos 0 → ⊥
+Compares ge z = pos 0 ≤ℤ z
+
+-- a sum, where `number` gives each setting's number
+abbrev pub LinearHolds : (ℕ → ℤ) → CmpOp → ℤ → List LinearTerm → Type 0
+LinearHolds number op constant terms = Compares op (linear-sum number constant terms)
+
+-- a product: x's number times y's is m's
+abbrev pub MulHolds : (ℕ → ℤ) → ℕ → ℕ → ℕ → Type 0
+MulHolds number x y m = number x *ℤ number y ≡ number m

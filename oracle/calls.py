@@ -1,0 +1,140 @@
+"""The eight calls on a job and two lent stores.
+
+Checks, refusals, heights and stores are ours; the clauses, variables, setting records and read
+values of an accepted call are the Rust's.
+"""
+
+from dataclasses import dataclass, field, replace
+
+import checks
+from heights import linear_reached, mul_reached
+from job import BITS, MAX_STORE, MAX_VARIABLES, Job, Setting, well_formed
+
+
+@dataclass
+class Answer:
+    """Number answered, value, part; beside them what a reader may want to see of the call."""
+
+    status: int
+    value: int = 0
+    part: list = field(default_factory=list)
+    reached: object = None
+    setting: object = None
+    clauses: object = None
+
+
+class Calls:
+    """A job and its lent stores; each call answers and leaves the job it returns."""
+
+    def __init__(self, driver, store_lits, store_ends):
+        self.driver = driver
+        self.job = Job()
+        self.lend(store_lits, store_ends)
+
+    def lend(self, store_lits, store_ends):
+        """Lends fresh stores, all 0; the job stays."""
+        self.lits = [0] * store_lits
+        self.ends = [0] * store_ends
+
+    def store_over(self):
+        return len(self.lits) > MAX_STORE or len(self.ends) > MAX_STORE
+
+    def malformed(self):
+        if self.store_over():
+            return 1
+        return 0 if well_formed(self.job, len(self.lits), len(self.ends)) else 1
+
+    def open(self, switches):
+        status = checks.check_open(switches)
+        if status == 0 and self.store_over():
+            status = 1
+        if status == 0 and len(self.ends) == 0:
+            status = 15
+        if status != 0:
+            self.job = Job()
+            return Answer(status)
+        self.job = Job(switches=switches, variables=switches)
+        self.ends[0] = 0
+        self.driver.open(self.job)
+        return Answer(0)
+
+    def add(self, word, numbers, reached=None):
+        """Runs a checked call in the Rust, tests the space, and writes if there is room."""
+        job = self.job
+        variables, clauses, literals = self.driver.call(job, word, numbers)
+        if variables > MAX_VARIABLES:
+            return Answer(14, reached=reached)
+        fits = job.literals + literals <= len(self.lits)
+        if not (fits and job.clauses + clauses + 1 <= len(self.ends)):
+            return Answer(15, reached=reached)
+        record, lengths, lits = self.driver.keep()
+        return self.write(variables, record, lengths, lits, reached)
+
+    def write(self, variables, record, lengths, lits, reached):
+        """Adds clauses to the stores' free tails, and a setting to the job."""
+        job = self.job
+        end, ends, clauses = 0, [], []
+        for length in lengths:
+            clauses.append(lits[end : end + length])
+            end += length
+            ends.append(job.literals + end)
+        self.lits[job.literals : job.literals + end] = lits
+        self.ends[job.clauses + 1 : job.clauses + 1 + len(ends)] = ends
+        counts = (job.switches, variables, job.clauses + len(ends), job.literals + end)
+        self.job = Job(*counts, job.count, job.settings)
+        setting = None
+        if record:
+            low, high, offset, *own = record
+            setting = Setting((*own, *[0] * (BITS - len(own))), len(own), low, high, offset)
+            kept, spare = job.settings[: job.count], job.settings[job.count + 1 :]
+            self.job = replace(self.job, count=job.count + 1, settings=(*kept, setting, *spare))
+        self.driver.at = self.job
+        return Answer(0, reached=reached, setting=setting, clauses=clauses)
+
+    def range(self, low, high):
+        status = self.malformed() or checks.check_range(self.job, low, high)
+        return Answer(status) if status else self.add("range", [low, high])
+
+    def list(self, values):
+        status = self.malformed() or checks.check_list(self.job, values)
+        return Answer(status) if status else self.add("list", values)
+
+    def binary(self, cond, v_false, v_true):
+        status = self.malformed() or checks.check_binary(self.job, cond, v_false, v_true)
+        return Answer(status) if status else self.add("binary", [cond, v_false, v_true])
+
+    def linear(self, op, constant, terms):
+        status = self.malformed() or checks.check_linear(self.job, op, constant, terms)
+        if status:
+            return Answer(status)
+        pairs = [(self.job.settings[s], c) for s, c in zip(terms[0::2], terms[1::2])]
+        reached = linear_reached(op, constant, pairs)
+        if reached.too_high():
+            return Answer(13, reached=reached)
+        return self.add("linear", [op, constant, *terms], reached)
+
+    def mul(self, x, y, m):
+        status = self.malformed() or checks.check_settings(self.job, [x, y, m])
+        if status:
+            return Answer(status)
+        reached = mul_reached(*[self.job.settings[s] for s in (x, y, m)])
+        if reached.too_high():
+            return Answer(13, reached=reached)
+        return self.add("mul", [x, y, m], reached)
+
+    def read(self, setting, assignment):
+        status = self.malformed() or checks.check_settings(self.job, [setting])
+        status = status or checks.check_assignment(self.job, assignment)
+        if status:
+            return Answer(status)
+        return Answer(0, value=self.driver.read(self.job, setting, assignment))
+
+    def clause(self, k):
+        if self.malformed():
+            return Answer(1)
+        if k >= self.job.clauses:
+            return Answer(17)
+        begin, end = self.ends[k], self.ends[k + 1]
+        if begin > end or end > self.job.literals:
+            return Answer(1)
+        return Answer(0, part=self.lits[begin:end])
