@@ -1,4 +1,5 @@
--- adder
+-- The adder spells what its columns add up to (`adder-value`), ties each new variable in one way (`adder-encodes`), and keeps the
+-- result literals that are given (`adder-keeps`).
 use Prim.Native.Nat.{_%_, _*_, _+_, _/_, _<_, _≤_, suc, zero, ℕ}
 use borrow.Author.Tests.{eqb-false, eqb-true, le-ltb, lt-ltb}
 use lib.Dec.{eqb, ltb}

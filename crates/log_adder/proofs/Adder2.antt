@@ -1,4 +1,5 @@
--- adder2
+-- The clauses of Eq's adder hold exactly where its columns reach their number, dead ends included (`adder2-encodes`,
+-- `eq-adder-encodes`).
 use Prim.Native.Nat.{_%_, _*_, _+_, _/_, _≤_, min, ℕ}
 use borrow.Author.Tests.{eqb-false, eqb-true, leb-false, leb-true}
 use lib.Dec.{eqb, leb, ltb}
@@ -25,7 +26,7 @@ use Rattle.mixed.proofs.Below.{Terms, bounded-below, singles-below}
 use Rattle.mixed.proofs.Flip.{flip-below}
 use Rattle.log_adder.specs.Adder2.{Adder2Output, EqColumn, LastColumn, adder2, adder2-clauses, dead-end, eq-adder, eq-carry-size, eq-column, eq-column-ge, eq-column-le, eq-columns, eq-ge-terms, eq-le-terms, eq-target, eq-value, last-column, ordering, prepend, returned-set}
 use Rattle.log_adder.specs.Gather.{Grid, GridBelow, grid-value}
-use Rattle.log_adder.proofs.Balance.{eq-column-sat, ordering-sat}
+use Rattle.log_adder.proofs.EqColumn.{eq-column-sat, ordering-sat}
 
 eq-column-below : (v : ℕ) (own carry next : List ℕ) (x y : ℕ) → LitsBelow v own → LitsBelow v carry → LitsBelow v next → ClausesBelow v (eq-column own carry x next y)
 unfolding eq-column
@@ -44,46 +45,46 @@ ordering-below v [] b = tt
 ordering-below v (l ∷ []) b = tt
 ordering-below v (l ∷ m ∷ ls) b = ((b .0, (neg-below v m (b .1 .0), tt)), ordering-below v (m ∷ ls) (b .1))
 
-module _ (cell : EqColumn) (carry : List ℕ) (v : ℕ) (o : LitsBelow v (cell .own)) (k : LitsBelow v carry)
-    (bit-ok : cell .target ≤ 1) (alive : cell .target ≤ length (cell .own) + length carry) where
+module _ (col : EqColumn) (carry : List ℕ) (v : ℕ) (o : LitsBelow v (col .own)) (k : LitsBelow v carry)
+    (bit-ok : col .target ≤ 1) (alive : col .target ≤ length (col .own) + length carry) where
   abbrev n : ℕ
-  n = eq-carry-size cell carry
+  n = eq-carry-size col carry
 
   abbrev total : Assignment → ℕ
-  total α = count α (cell .own) + count α carry
+  total α = count α (col .own) + count α carry
 
   abbrev clauses : Clauses
-  clauses = ordering (fresh n v) ++ eq-column (cell .own) carry 0 (fresh n v) (cell .target)
+  clauses = ordering (fresh n v) ++ eq-column (col .own) carry 0 (fresh n v) (col .target)
 
-  meaning : (α : Assignment) → Monotone α carry → So (sat α clauses) ↔ (Monotone α (fresh n v) × (total α ≡ 2 * count α (fresh n v) + cell .target))
+  meaning : (α : Assignment) → Monotone α carry → So (sat α clauses) ↔ (Monotone α (fresh n v) × (total α ≡ 2 * count α (fresh n v) + col .target))
   meaning α f =
       Iff·trans
-      (sat-both α (ordering (fresh n v)) (eq-column (cell .own) carry 0 (fresh n v) (cell .target))) (
+      (sat-both α (ordering (fresh n v)) (eq-column (col .own) carry 0 (fresh n v) (col .target))) (
         λ h.
-            let falls = ordering-sat α (fresh n v) .0 (h .0) in
-            (falls, omega (arith, eq-column-sat α (cell .own) carry (fresh n v) 0 (cell .target) f falls .0 (h .1))),
-        λ h. (ordering-sat α (fresh n v) .1 (h .0), eq-column-sat α (cell .own) carry (fresh n v) 0 (cell .target) f (h .0) .1 (omega arith)),
+            let ordered = ordering-sat α (fresh n v) .0 (h .0) in
+            (ordered, omega (arith, eq-column-sat α (col .own) carry (fresh n v) 0 (col .target) f ordered .0 (h .1))),
+        λ h. (ordering-sat α (fresh n v) .1 (h .0), eq-column-sat α (col .own) carry (fresh n v) 0 (col .target) f (h .0) .1 (omega arith)),
       )
 
   total-agree : (α β : Assignment) → Agree v α β → total α ≡ total β
-  total-agree α β g = omega (arith, count-agree v α β g (cell .own) o, count-agree v α β g carry k)
+  total-agree α β g = omega (arith, count-agree v α β g (col .own) o, count-agree v α β g carry k)
 
   chosen : Assignment → Assignment
   chosen α = over v (λ i. ltb i (total α / 2)) α
 
-  eq-column-encodes : Encodes v (v + n) (λ α. Monotone α carry) (λ α. total α % 2 ≡ cell .target) clauses
+  eq-column-encodes : Encodes v (v + n) (λ α. Monotone α carry) (λ α. total α % 2 ≡ col .target) clauses
   unfolding chosen
   eq-column-encodes =
       record {
         grows = omega arith;
-        below = clauses-below-append (v + n) (ordering (fresh n v)) (eq-column (cell .own) carry 0 (fresh n v) (cell .target))
+        below = clauses-below-append (v + n) (ordering (fresh n v)) (eq-column (col .own) carry 0 (fresh n v) (col .target))
             (ordering-below (v + n) (fresh n v) (fresh-below n v (v + n) (omega arith)))
-            (eq-column-below (v + n) (cell .own) carry (fresh n v) 0 (cell .target)
-            (lits-below-more v _ (cell .own) (omega arith) o) (lits-below-more v _ carry (omega arith) k) (fresh-below n v (v + n) (omega arith)));
+            (eq-column-below (v + n) (col .own) carry (fresh n v) 0 (col .target)
+            (lits-below-more v _ (col .own) (omega arith) o) (lits-below-more v _ carry (omega arith) k) (fresh-below n v (v + n) (omega arith)));
         sound = λ α f h. let a = meaning α f .0 h in omega arith;
         complete = λ α f e.
             let g : Agree v α (chosen α) = over-agree v (λ i. ltb i (total α / 2)) α in
-            let fill = fresh-lead (chosen α) n v (total α / 2) (omega (arith, count-le α (cell .own), count-le α carry))
+            let fill = fresh-lead (chosen α) n v (total α / 2) (omega (arith, count-le α (col .own), count-le α carry))
             (λ i h. over-new v (λ i. ltb i (total α / 2)) α i) in (
               chosen α,
               g,
@@ -99,14 +100,14 @@ module _ (cell : EqColumn) (carry : List ℕ) (v : ℕ) (o : LitsBelow v (cell .
 -- the sent clauses go in front
 module _ (o b s : Clauses) where
   shuffle-sat : (m : Option Clauses) (α : Assignment) → sat α ((o ++ b) ++ (s ++ returned-set m)) ≡ sat α ((o ++ s) ++ returned-set (prepend b m))
-  shuffle-sat none α = simp sat-append (dull (sat α o) (sat α b) (sat α s))
+  shuffle-sat none α = simp sat-append (never-both (sat α o) (sat α b) (sat α s))
     where
-      dull : (O B S : Bool) → ((O && B) && (S && false)) ≡ ((O && S) && false)
-      dull true true true = refl
-      dull true true false = refl
-      dull true false true = refl
-      dull true false false = refl
-      dull false B S = refl
+      never-both : (O B S : Bool) → ((O && B) && (S && false)) ≡ ((O && S) && false)
+      never-both true true true = refl
+      never-both true true false = refl
+      never-both true false true = refl
+      never-both true false false = refl
+      never-both false B S = refl
   shuffle-sat (some m) α = simp sat-append (swap (sat α o) (sat α b) (sat α s) (sat α m))
     where
       swap : (O B S M : Bool) → ((O && B) && (S && M)) ≡ ((O && S) && (B && M))
@@ -128,25 +129,25 @@ module _ (o b s : Clauses) where
 
 abbrev pub EqColumnsBelow : ℕ → List EqColumn → Type 0
 EqColumnsBelow v [] = Unit
-EqColumnsBelow v (cell ∷ cells) = (LitsBelow v (cell .own) × (cell .target ≤ 1)) × EqColumnsBelow v cells
+EqColumnsBelow v (col ∷ cols) = (LitsBelow v (col .own) × (col .target ≤ 1)) × EqColumnsBelow v cols
 
-eq-columns-below-more : (v v′ : ℕ) (cells : List EqColumn) → v ≤ v′ → EqColumnsBelow v cells → EqColumnsBelow v′ cells
+eq-columns-below-more : (v v′ : ℕ) (cols : List EqColumn) → v ≤ v′ → EqColumnsBelow v cols → EqColumnsBelow v′ cols
 eq-columns-below-more v v′ [] h b = tt
-eq-columns-below-more v v′ (cell ∷ cells) h b = ((lits-below-more v v′ (cell .own) h (b .0 .0), b .0 .1), eq-columns-below-more v v′ cells h (b .1))
+eq-columns-below-more v v′ (col ∷ cols) h b = ((lits-below-more v v′ (col .own) h (b .0 .0), b .0 .1), eq-columns-below-more v v′ cols h (b .1))
 
-eq-value-agree : (v : ℕ) (α β : Assignment) → Agree v α β → (cells : List EqColumn) (last : LastColumn) → EqColumnsBelow v cells → LitsBelow v (last .own)
-    → eq-value α cells last ≡ eq-value β cells last
+eq-value-agree : (v : ℕ) (α β : Assignment) → Agree v α β → (cols : List EqColumn) (last : LastColumn) → EqColumnsBelow v cols → LitsBelow v (last .own)
+    → eq-value α cols last ≡ eq-value β cols last
 eq-value-agree v α β g [] last b e = omega (arith, count-agree v α β g (last .own) e)
-eq-value-agree v α β g (cell ∷ cells) last b e =
-    omega (arith, count-agree v α β g (cell .own) (b .0 .0), eq-value-agree v α β g cells last (b .1) e)
+eq-value-agree v α β g (col ∷ cols) last b e =
+    omega (arith, count-agree v α β g (col .own) (b .0 .0), eq-value-agree v α β g cols last (b .1) e)
 
-pub adder2-encodes : (cells : List EqColumn) (last : LastColumn) (carry : List ℕ) (v : ℕ) → EqColumnsBelow v cells → LitsBelow v (last .own) → LitsBelow v carry
+pub adder2-encodes : (cols : List EqColumn) (last : LastColumn) (carry : List ℕ) (v : ℕ) → EqColumnsBelow v cols → LitsBelow v (last .own) → LitsBelow v carry
     → Encodes
     v
-    (adder2 cells last carry v .vars)
+    (adder2 cols last carry v .vars)
     (λ α. Monotone α carry)
-    (λ α. count α carry + eq-value α cells last ≡ eq-target cells last)
-    (adder2-clauses (adder2 cells last carry v))
+    (λ α. count α carry + eq-value α cols last ≡ eq-target cols last)
+    (adder2-clauses (adder2 cols last carry v))
 adder2-encodes [] last carry v b e k =
     record {
       grows = omega arith;
@@ -155,49 +156,49 @@ adder2-encodes [] last carry v b e k =
       complete = λ α f h. (α, (λ x h. refl), eq-column-sat α (last .own) carry [] (last .plus) (last .target) f refl .1 (omega arith));
       unique = λ α β f g h h′. g;
     }
-adder2-encodes (cell ∷ cells) last carry v b e k =
-    go (leb (cell .target) (length (cell .own) + length carry)) refl
-    (adder2-encodes cells last (fresh n′ v) (v + n′) (eq-columns-below-more v _ cells (omega arith) (b .1)) (lits-below-more v _ (last .own) (omega arith) e)
+adder2-encodes (col ∷ cols) last carry v b e k =
+    go (leb (col .target) (length (col .own) + length carry)) refl
+    (adder2-encodes cols last (fresh n′ v) (v + n′) (eq-columns-below-more v _ cols (omega arith) (b .1)) (lits-below-more v _ (last .own) (omega arith) e)
     (fresh-below n′ v _ (omega arith)))
   where
     n′ : ℕ
-    n′ = eq-carry-size cell carry
+    n′ = eq-carry-size col carry
 
     rest : Adder2Output
-    rest = adder2 cells last (fresh n′ v) (v + n′)
+    rest = adder2 cols last (fresh n′ v) (v + n′)
 
     S : Assignment → Type 0
-    S α = count α carry + (count α (cell .own) + 2 * eq-value α cells last) ≡ cell .target + 2 * eq-target cells last
+    S α = count α carry + (count α (col .own) + 2 * eq-value α cols last) ≡ col .target + 2 * eq-target cols last
 
     here : Adder2Output
     here =
         record {
           sent = ordering (fresh n′ v) ++ rest .sent;
-          returned = prepend (eq-column (cell .own) carry 0 (fresh n′ v) (cell .target)) (rest .returned);
+          returned = prepend (eq-column (col .own) carry 0 (fresh n′ v) (col .target)) (rest .returned);
           vars = rest .vars;
         }
 
-    go : (t : Bool) → leb (cell .target) (length (cell .own) + length carry) ≡ t
-        → Encodes (v + n′) (rest .vars) (λ α. Monotone α (fresh n′ v)) (λ α. count α (fresh n′ v) + eq-value α cells last ≡ eq-target cells last) (adder2-clauses rest)
+    go : (t : Bool) → leb (col .target) (length (col .own) + length carry) ≡ t
+        → Encodes (v + n′) (rest .vars) (λ α. Monotone α (fresh n′ v)) (λ α. count α (fresh n′ v) + eq-value α cols last ≡ eq-target cols last) (adder2-clauses rest)
         → Encodes v ((cond t here (dead-end v)) .vars) (λ α. Monotone α carry) S (adder2-clauses (cond t here (dead-end v)))
     go true q ih =
-        let alive : cell .target ≤ length (cell .own) + length carry = leb-true _ _ q in
+        let alive : col .target ≤ length (col .own) + length carry = leb-true _ _ q in
         let whole : Encodes v (rest .vars) (λ α. Monotone α carry) S
-        ((ordering (fresh n′ v) ++ eq-column (cell .own) carry 0 (fresh n′ v) (cell .target)) ++ adder2-clauses rest) =
-        compose S (eq-column-encodes cell carry v (b .0 .0) k (b .0 .1) alive) ih
+        ((ordering (fresh n′ v) ++ eq-column (col .own) carry 0 (fresh n′ v) (col .target)) ++ adder2-clauses rest) =
+        compose S (eq-column-encodes col carry v (b .0 .0) k (b .0 .1) alive) ih
         (λ α β g f. monotone-agree v α β g carry k f)
-        (λ α β g s. omega (arith, total-agree cell carry v (b .0 .0) k (b .0 .1) alive α β g, eq-value-agree v α β g cells last (b .1) e))
+        (λ α β g s. omega (arith, total-agree col carry v (b .0 .0) k (b .0 .1) alive α β g, eq-value-agree v α β g cols last (b .1) e))
         (λ α f s. omega (arith, b .0 .1))
-        (λ α f h. let a = meaning cell carry v (b .0 .0) k (b .0 .1) alive α f .0 h in (a .0, omega arith)) in
-        relist (adder2-clauses here) (shuffle-sat (ordering (fresh n′ v)) (eq-column (cell .own) carry 0 (fresh n′ v) (cell .target)) (rest .sent) (rest .returned))
-        (shuffle-below (ordering (fresh n′ v)) (eq-column (cell .own) carry 0 (fresh n′ v) (cell .target)) (rest .sent) (rest .vars) (rest .returned) (whole .below))
+        (λ α f h. let a = meaning col carry v (b .0 .0) k (b .0 .1) alive α f .0 h in (a .0, omega arith)) in
+        relist (adder2-clauses here) (shuffle-sat (ordering (fresh n′ v)) (eq-column (col .own) carry 0 (fresh n′ v) (col .target)) (rest .sent) (rest .returned))
+        (shuffle-below (ordering (fresh n′ v)) (eq-column (col .own) carry 0 (fresh n′ v) (col .target)) (rest .sent) (rest .vars) (rest .returned) (whole .below))
         whole
     go false q ih =
         record {
           grows = omega arith;
           below = (tt, tt);
           sound = λ α f h. never h;
-          complete = λ α f s. absurd (omega (arith, leb-false (cell .target) (length (cell .own) + length carry) q, b .0 .1, count-le α (cell .own), count-le α carry));
+          complete = λ α f s. absurd (omega (arith, leb-false (col .target) (length (col .own) + length carry) q, b .0 .1, count-le α (col .own), count-le α carry));
           unique = λ α β f g h h′. never h;
         }
 

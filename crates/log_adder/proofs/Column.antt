@@ -1,4 +1,4 @@
--- column
+-- A column's clauses hold exactly where the next carry is ordered and the column adds up (`column-sat`).
 use Prim.Native.Nat.{_*_, _+_, _-_, _<_, _≤_, ℕ}
 use lib.ListN.{length, length-map}
 use mathlib.Core.Bool.{So}
@@ -20,7 +20,7 @@ use Rattle.mixed.proofs.Enumerate.{singles-within}
 use Rattle.mixed.proofs.Flip.{count-flip, flip-below, length-flip, monotone-flip}
 use Rattle.log_adder.specs.Column.{column, column-ge, column-le, ge-terms, le-terms}
 
-module _ (α : Assignment) (own carry next : List ℕ) (r c : ℕ) (falls : Monotone α carry) (fits : c ≤ 2 * length next + 1) where
+module _ (α : Assignment) (own carry next : List ℕ) (r c : ℕ) (ordered : Monotone α carry) (fits : c ≤ 2 * length next + 1) where
   up : So (sat α (column-ge own carry c next r))
       ↔ (2 * (length next - lead α (flip next)) + bit α r ≤ c + count α own + count α carry)
   up =
@@ -57,7 +57,7 @@ module _ (α : Assignment) (own carry next : List ℕ) (r c : ℕ) (falls : Mono
         count-neg α own,
         length-map own neg,
         count-flip α carry,
-        monotone-flip α carry falls,
+        monotone-flip α carry ordered,
         length-flip carry,
         lead-le α next,
       ))

@@ -1,7 +1,7 @@
 pub mod Column
 pub mod Adder
 pub mod Gather
-pub mod Balance
+pub mod EqColumn
 pub mod Adder2
-pub mod Twice
+pub mod MinusTwice
 pub mod Plain

@@ -1,4 +1,5 @@
--- plain
+-- The adder of Eq in integers gives what the adder in natural numbers gives, dead ends included (`plain-eq-adder-is`), and the
+-- columns of the other adder are the two inequalities of mixed.rs (`column-plain`).
 use Prim.Native.Nat.{_%_, _*_, _+_, _-_, _/_, _≤_, min, suc, zero, ℕ}
 use borrow.Author.Tests.{le-leb, leb-false, leb-true, lt-leb, ne-eqb}
 use lib.Dec.{leb}
@@ -22,11 +23,11 @@ use Rattle.mixed.proofs.Order.{Even, Evens, encode-ge-is, even-down, even-up, m
 use Rattle.log_adder.specs.Adder2.{Adder2Output, adder2, dead-end, eq-adder, eq-column, eq-columns, eq-ge-terms, eq-le-terms, last-column, ordering, prepend, returned-set}
 use Rattle.log_adder.specs.Column.{column, ge-terms, le-terms}
 use Rattle.log_adder.specs.PlainAdder2.{Carry, Signed, SignedColumns, adder-infos, carry-order, column-infos, from-0, greatest, info, least, minus-twice, next-carry, no-carry, plain-adder2, plain-eq-adder, signed-order}
-use Rattle.log_adder.proofs.Twice.{Fits, carry-is, evenly, twice-even, twice-even′, twice-max, twice-max′}
+use Rattle.log_adder.proofs.MinusTwice.{Fits, carry-is, evenly, twice-even, twice-even′, twice-max, twice-max′}
 
 -- The same columns for the adder of natural numbers: a literal that counts negative as its negation, one less.
-abbrev pub turn : Signed → ℕ
-turn s = cond (s .negative) (neg (s .lit)) (s .lit)
+abbrev pub positive-lit : Signed → ℕ
+positive-lit s = cond (s .negative) (neg (s .lit)) (s .lit)
 
 -- the ones, column by column and in all
 abbrev pub minuses : List Signed → ℕ
@@ -42,7 +43,7 @@ weights (c ∷ cols) = minuses c + 2 * weights cols
 abbrev lowest : Signed → ℤ
 lowest s = cond (s .negative) (negsuc 0) (pos 0)
 
-signed-is : (s : Signed) → signed-order s ≡ evenly (lowest s) (turn s ∷ [])
+signed-is : (s : Signed) → signed-order s ≡ evenly (lowest s) (positive-lit s ∷ [])
 signed-is s = go (s .negative)
   where
     go : (m : Bool)
@@ -70,11 +71,11 @@ join : {xs xs′ ys ys′ : Clauses} → xs ≡ xs′ → ys ≡ ys′ → xs ++
 join p q = cc
 
 module _ (carry next : Carry) (f : Fits carry) (g : Fits next) where
-  ge-even : (own : List Signed) → Evens (column-infos own carry next) (eq-ge-terms (map turn own) (carry .lits) (next .lits))
+  ge-even : (own : List Signed) → Evens (column-infos own carry next) (eq-ge-terms (map positive-lit own) (carry .lits) (next .lits))
   ge-even [] = (more-even _ _ _ (carry-is carry f), (twice-even next g, tt))
   ge-even (s ∷ ss) = (more-even _ _ _ (signed-is s), ge-even ss)
 
-  le-even : (own : List Signed) → Evens (map negated (column-infos own carry next)) (eq-le-terms (map turn own) (carry .lits) (next .lits))
+  le-even : (own : List Signed) → Evens (map negated (column-infos own carry next)) (eq-le-terms (map positive-lit own) (carry .lits) (next .lits))
   le-even [] = (less-even _ _ _ (carry-is carry f), (twice-even′ next g, tt))
   le-even (s ∷ ss) = (less-even _ _ _ (signed-is s), le-even ss)
 
@@ -111,12 +112,12 @@ module _ (carry next : Carry) (f : Fits carry) (g : Fits next) where
 
   column-is : (own : List Signed) (k : ℤ) (x y : ℕ)
       → up k + up (carry .low) + 2 * down (next .low) + y ≡ down k + down (carry .low) + minuses own + 2 * up (next .low) + x
-      → encode-eq (column-infos own carry next) k ≡ eq-column (map turn own) (carry .lits) x (next .lits) y
+      → encode-eq (column-infos own carry next) k ≡ eq-column (map positive-lit own) (carry .lits) x (next .lits) y
   unfolding eq-column
   column-is own k x y e =
-      let n = length-map own turn in
+      let n = length-map own positive-lit in
       join
-      (encode-ge-is (column-infos own carry next) _ (ge-even own) k (x + length (map turn own) + length (carry .lits)) y
+      (encode-ge-is (column-infos own carry next) _ (ge-even own) k (x + length (map positive-lit own) + length (carry .lits)) y
       (omega (arith, ge-bound own k)))
       (encode-ge-is (map negated (column-infos own carry next)) _ (le-even own) (negℤ k) (y + 2 * length (next .lits)) x
       (omega (arith, le-bound own (negℤ k), neg-reads k)))
@@ -196,7 +197,7 @@ module _ (own : List Signed) (carry : Carry) (k : ℤ) (v x y rest : ℕ) (fits 
   odd = (x + y) % 2
 
   abbrev size : ℕ
-  size = length (map turn own) + length (carry .lits)
+  size = length (map positive-lit own) + length (carry .lits)
 
   abbrev l : ℤ
   l = least own (carry .low)
@@ -205,41 +206,41 @@ module _ (own : List Signed) (carry : Carry) (k : ℤ) (v x y rest : ℕ) (fits 
   h = greatest own (carry .high)
 
   width : up h + down l ≡ down h + up l + size
-  width = omega (arith, fits, least-read own (carry .low), greatest-read own (carry .high), length-map own turn)
+  width = omega (arith, fits, least-read own (carry .low), greatest-read own (carry .high), length-map own positive-lit)
 
   left : up k + up l + y ≡ down k + down l + 2 * rest + x
   left = omega (arith, sum, least-read own (carry .low))
 
-  abbrev cell : List ℕ → ℕ → Adder2Output
-  cell ls w = joined ls (eq-column (map turn own) (carry .lits) 0 ls odd) (other ls w)
+  abbrev col : List ℕ → ℕ → Adder2Output
+  col ls w = joined ls (eq-column (map positive-lit own) (carry .lits) 0 ls odd) (other ls w)
 
   live-is : odd ≤ size → joined (next .lits) (encode-eq (column-infos own carry next) (low-bit k)) (plain next (v + length (next .lits)))
-      ≡ cell (fresh ((size - odd) / 2) v) (v + (size - odd) / 2)
+      ≡ col (fresh ((size - odd) / 2) v) (v + (size - odd) / 2)
   live-is a =
       let wide = span k l h size rest x y width apart left a in
       let many : up (next .high -ℤ next .low) ≡ (size - odd) / 2 =
       omega (arith, add-read (next .high) (negℤ (next .low)), neg-reads (next .low), apart-read (next .high -ℤ next .low)) in
       let lits : length (next .lits) ≡ (size - odd) / 2 = fresh-length (up (next .high -ℤ next .low)) v ∙ many in
       let fit : Fits next = omega arith in
-      let column : encode-eq (column-infos own carry next) (low-bit k) ≡ eq-column (map turn own) (carry .lits) 0 (next .lits) odd =
+      let column : encode-eq (column-infos own carry next) (low-bit k) ≡ eq-column (map positive-lit own) (carry .lits) 0 (next .lits) odd =
       column-is carry next fits fit own (low-bit k) 0 odd
       (omega (arith, low-is k l h size rest x y width apart left, least-read own (carry .low))) in
       let on : plain next (v + length (next .lits)) ≡ other (next .lits) (v + length (next .lits)) =
       ih next (v + length (next .lits)) fit (low-next k l h size rest x y width apart left) in
       ap (λ cs. joined (next .lits) cs (plain next (v + length (next .lits)))) column
-      ∙ ap (λ out. joined (next .lits) (eq-column (map turn own) (carry .lits) 0 (next .lits) odd) out) on
-      ∙ ap (λ n. cell (next .lits) (v + n)) lits
-      ∙ ap (λ n. cell (fresh n v) (v + (size - odd) / 2)) many
+      ∙ ap (λ out. joined (next .lits) (eq-column (map positive-lit own) (carry .lits) 0 (next .lits) odd) out) on
+      ∙ ap (λ n. col (next .lits) (v + n)) lits
+      ∙ ap (λ n. col (fresh n v) (v + (size - odd) / 2)) many
 
   step-is : cond (ltZ (next .high) (next .low)) (dead-end v)
       (joined (next .lits) (encode-eq (column-infos own carry next) (low-bit k)) (plain next (v + length (next .lits))))
-      ≡ cond (leb odd size) (cell (fresh ((size - odd) / 2) v) (v + (size - odd) / 2)) (dead-end v)
+      ≡ cond (leb odd size) (col (fresh ((size - odd) / 2) v) (v + (size - odd) / 2)) (dead-end v)
   step-is = rw (alive k l h size rest x y width apart left) (go (leb odd size) refl)
     where
       go : (b : Bool) → leb odd size ≡ b
           → cond (not b) (dead-end v)
           (joined (next .lits) (encode-eq (column-infos own carry next) (low-bit k)) (plain next (v + length (next .lits))))
-          ≡ cond b (cell (fresh ((size - odd) / 2) v) (v + (size - odd) / 2)) (dead-end v)
+          ≡ cond b (col (fresh ((size - odd) / 2) v) (v + (size - odd) / 2)) (dead-end v)
       go true q = live-is (leb-true odd size q)
       go false q = refl
 
@@ -247,14 +248,14 @@ module _ (own : List Signed) (carry : Carry) (k : ℤ) (v x y rest : ℕ) (fits 
 pub plain-adder2-is : (own : List Signed) (cols : SignedColumns) (i : ℕ) (k : ℤ) (carry : Carry) (v x y : ℕ) → Fits carry → min x y ≡ 0
     → up (shift k i) + up (carry .low) + y ≡ down (shift k i) + down (carry .low) + weights (own ∷ cols) + x
     → plain-adder2 own cols i k carry v
-    ≡ adder2 (eq-columns (map turn own ∷ map (map turn) cols) x y) (last-column (map turn own ∷ map (map turn) cols) x y) (carry .lits) v
+    ≡ adder2 (eq-columns (map positive-lit own ∷ map (map positive-lit) cols) x y) (last-column (map positive-lit own ∷ map (map positive-lit) cols) x y) (carry .lits) v
 plain-adder2-is own [] i k carry v x y f apart sum =
     ap (λ cs. record { sent = []; returned = some cs; vars = v }) (column-is carry no-carry f refl own (shift k i) x y (omega arith))
 plain-adder2-is own (c ∷ cols) i k carry v x y f apart sum =
     step-is own carry (shift k i) v x y (weights (c ∷ cols)) f apart sum
     (λ next w. plain-adder2 c cols (suc i) k next w)
-    (λ ls w. adder2 (eq-columns (map turn c ∷ map (map turn) cols) ((x + 1) / 2) (y / 2))
-    (last-column (map turn c ∷ map (map turn) cols) ((x + 1) / 2) (y / 2)) ls w)
+    (λ ls w. adder2 (eq-columns (map positive-lit c ∷ map (map positive-lit) cols) ((x + 1) / 2) (y / 2))
+    (last-column (map positive-lit c ∷ map (map positive-lit) cols) ((x + 1) / 2) (y / 2)) ls w)
     (λ next w g s.
     let a = ap up (shift-next k i) in
     let b = ap down (shift-next k i) in
@@ -262,7 +263,7 @@ plain-adder2-is own (c ∷ cols) i k carry v x y f apart sum =
 
 -- the same clauses sent, the same returned and the same variables, for all columns and every constant
 pub plain-eq-adder-is : (cols : SignedColumns) (k : ℤ) (v : ℕ)
-    → plain-eq-adder cols k v ≡ eq-adder (map (map turn) cols) (up k - (down k + weights cols)) (down k + weights cols - up k) v
+    → plain-eq-adder cols k v ≡ eq-adder (map (map positive-lit) cols) (up k - (down k + weights cols)) (down k + weights cols - up k) v
 plain-eq-adder-is [] (pos zero) v = refl
 plain-eq-adder-is [] (pos (suc k)) v = rw (ne-eqb (suc k - 0) (0 - suc k) (omega arith))
 plain-eq-adder-is [] (negsuc k) v = rw (ne-eqb (0 - (suc k + 0)) (suc k + 0 - 0) (omega arith))

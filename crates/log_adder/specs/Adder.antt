@@ -1,4 +1,4 @@
--- adder
+-- The adder of Ne, Ge and products, after `log_encoding_adder` of log.rs: column after column, each with the carry of the one before.
 use Prim.Native.Nat.{_%_, _*_, _+_, _/_, suc, zero, ℕ}
 use lib.ListN.{length}
 use mathlib.Core.List.{List, [], _++_, _∷_}
@@ -20,6 +20,7 @@ abbrev pub result : List ℕ → ℕ → ℕ
 result [] v = 2 * v
 result (r ∷ rs) v = r
 
+-- the variable count after it
 abbrev pub result-vars : List ℕ → ℕ → ℕ
 result-vars [] v = suc v
 result-vars (r ∷ rs) v = v
@@ -28,10 +29,11 @@ abbrev pub tail : List ℕ → List ℕ
 tail [] = []
 tail (r ∷ rs) = rs
 
--- the size of the outgoing carry
+-- how many variables the outgoing carry has
 abbrev pub carry-size : AdderColumn → List ℕ → ℕ
 carry-size col carry = (col .constant + length (col .own) + length carry) / 2
 
+-- a column's clauses and result, before those of the columns after it
 abbrev pub joined : Clauses → ℕ → EncodedBits → EncodedBits
 joined cs r rest = record { clauses = cs ++ rest .clauses; bits = r ∷ rest .bits; vars = rest .vars }
 
@@ -49,12 +51,13 @@ no-more-columns v = record { clauses = []; bits = []; vars = v }
 abbrev pub empty-column : AdderColumn
 empty-column = record { own = []; constant = 0 }
 
--- past the columns: as long as there is a carry. It halves, so that its length bounds the columns.
+-- past the columns, as long as there is a carry; it halves, so that its length f bounds the columns
 abbrev pub extend : ℕ → List ℕ → ℕ → EncodedBits
 extend zero carry v = no-more-columns v
 extend (suc f) [] v = no-more-columns v
 extend (suc f) (k ∷ ks) v = add-column empty-column (k ∷ ks) (carry-size empty-column (k ∷ ks)) [] v (λ next w. extend f next w)
 
+-- the columns, the carry into the first, the result literals that are given, and the variable count before
 abbrev pub adder : List AdderColumn → List ℕ → List ℕ → ℕ → EncodedBits
 adder [] carry rs v = extend (length carry) carry v
 adder (col ∷ cols) carry rs v = add-column col carry (carry-size col carry) rs v (λ next w. adder cols next (tail rs) w)

@@ -1,4 +1,6 @@
--- adder2
+-- The adder of Eq, after `log_encoding_adder2` of log.rs, in natural numbers: a literal that counts -1 stands as its negation, and its
+-- 1 is moved across. The columns have to reach a number, of which each column but the last has its own bit. `PlainAdder2` has the
+-- same in integers, with least and greatest carries, and proofs/Plain that the two are equal.
 use Prim.Native.Nat.{_%_, _*_, _+_, _-_, _/_, ℕ}
 use lib.Dec.{eqb, leb}
 use lib.ListN.{length}
@@ -13,7 +15,7 @@ use Rattle.mixed.specs.Enumerate.{bounded}
 use Rattle.mixed.specs.Terms.{Term, flip, singles, term}
 use Rattle.log_adder.specs.Gather.{Grid}
 
--- a carry's literals fall
+-- a new carry's ordering clauses: each literal holds where the next one does
 abbrev pub ordering : List ℕ → Clauses
 ordering [] = []
 ordering (a ∷ []) = []
@@ -26,7 +28,7 @@ eq-ge-terms own carry next = singles own ++ (term 1 carry ∷ term 2 (flip next)
 abbrev pub eq-le-terms : List ℕ → List ℕ → List ℕ → List Term
 eq-le-terms own carry next = singles (map neg own) ++ (term 1 (flip carry) ∷ term 2 next ∷ [])
 
--- x + own + carry is at least 2 next + y, and at most
+-- x + own + carry = 2 next + y: at least, and at most
 abbrev pub eq-column-ge : List ℕ → List ℕ → ℕ → List ℕ → ℕ → Clauses
 eq-column-ge own carry x next y = bounded (eq-ge-terms own carry next) (x + length own + length carry) y
 
@@ -36,18 +38,18 @@ eq-column-le own carry x next y = bounded (eq-le-terms own carry next) (y + 2 * 
 unfoldable pub eq-column : List ℕ → List ℕ → ℕ → List ℕ → ℕ → Clauses
 eq-column own carry x next y = eq-column-ge own carry x next y ++ eq-column-le own carry x next y
 
--- a column but the last: its literals, and its bit of the number
+-- a column but the last: its literals, and its bit of the number to reach
 pub record EqColumn : Type 0 where
   pub own : List ℕ
   pub target : ℕ
 
--- the last column: its literals and x add up to y
+-- the last column: `plus` and its literals have to reach the target
 pub record LastColumn : Type 0 where
   pub own : List ℕ
   pub plus : ℕ
   pub target : ℕ
 
--- the clauses sent at once, those to return, unless a column was a dead end, and the variables counted so far
+-- the clauses sent at once, those to return (none where a column was a dead end), and the variable count
 pub record Adder2Output : Type 0 where
   pub sent : Clauses
   pub returned : Option Clauses
@@ -57,61 +59,67 @@ abbrev pub prepend : Clauses → Option Clauses → Option Clauses
 prepend cs none = none
 prepend cs (some ds) = some (cs ++ ds)
 
+-- the returned set: of a dead end, one empty clause
 abbrev pub returned-set : Option Clauses → Clauses
 returned-set none = [] ∷ []
 returned-set (some cs) = cs
 
+-- how many variables the outgoing carry has
 abbrev pub eq-carry-size : EqColumn → List ℕ → ℕ
-eq-carry-size cell carry = (length (cell .own) + length carry - cell .target) / 2
+eq-carry-size col carry = (length (col .own) + length carry - col .target) / 2
 
+-- a column whose bit exceeds its height; what it would return is dropped
 abbrev pub dead-end : ℕ → Adder2Output
 dead-end v = record { sent = []; returned = none; vars = v }
 
+-- the columns, the last, the carry into the first, and the variable count before
 abbrev pub adder2 : List EqColumn → LastColumn → List ℕ → ℕ → Adder2Output
 adder2 [] last carry v =
     record { sent = []; returned = some (eq-column (last .own) carry (last .plus) [] (last .target)); vars = v }
-adder2 (cell ∷ cells) last carry v =
-    let n = eq-carry-size cell carry in
-    let rest = adder2 cells last (fresh n v) (v + n) in
+adder2 (col ∷ cols) last carry v =
+    let n = eq-carry-size col carry in
+    let rest = adder2 cols last (fresh n v) (v + n) in
     cond
-    (leb (cell .target) (length (cell .own) + length carry))
+    (leb (col .target) (length (col .own) + length carry))
     record {
       sent = ordering (fresh n v) ++ rest .sent;
-      returned = prepend (eq-column (cell .own) carry 0 (fresh n v) (cell .target)) (rest .returned);
+      returned = prepend (eq-column (col .own) carry 0 (fresh n v) (col .target)) (rest .returned);
       vars = rest .vars;
     }
     (dead-end v)
 
--- all the clauses, in the order of the runs
+-- all the clauses in their order: those sent, then the returned set
 abbrev pub adder2-clauses : Adder2Output → Clauses
 adder2-clauses out = out .sent ++ returned-set (out .returned)
 
 -- what the columns add up to, and what they have to
 abbrev pub eq-value : Assignment → List EqColumn → LastColumn → ℕ
 eq-value α [] last = last .plus + count α (last .own)
-eq-value α (cell ∷ cells) last = count α (cell .own) + 2 * eq-value α cells last
+eq-value α (col ∷ cols) last = count α (col .own) + 2 * eq-value α cols last
 
 abbrev pub eq-target : List EqColumn → LastColumn → ℕ
 eq-target [] last = last .target
-eq-target (cell ∷ cells) last = cell .target + 2 * eq-target cells last
+eq-target (col ∷ cols) last = col .target + 2 * eq-target cols last
 
--- columns that with x are to add up to y, one of which is 0: a bit for each but the last
+-- columns that with x have to add up to y, where x or y is 0: a bit for each but the last
 abbrev pub eq-columns : Grid → ℕ → ℕ → List EqColumn
 eq-columns [] x y = []
 eq-columns (c ∷ []) x y = []
 eq-columns (c ∷ d ∷ cols) x y = record { own = c; target = (x + y) % 2 } ∷ eq-columns (d ∷ cols) ((x + 1) / 2) (y / 2)
 
+-- the last of them, with what is left of x and y
 abbrev pub last-column : Grid → ℕ → ℕ → LastColumn
 last-column [] x y = record { own = []; plus = x; target = y }
 last-column (c ∷ []) x y = record { own = c; plus = x; target = y }
 last-column (c ∷ d ∷ cols) x y = last-column (d ∷ cols) ((x + 1) / 2) (y / 2)
 
--- the clauses sent at once, and those returned
+-- the clauses sent at once, the returned set, and the variable count
 pub record EncodedEq : Type 0 where
   pub sent : Clauses
   pub returned : Clauses
   pub vars : ℕ
 
+-- no column: one empty clause, unless x is y
 abbrev pub eq-adder : Grid → ℕ → ℕ → ℕ → EncodedEq
 eq-adder [] x y v = record { sent = []; returned = cond (eqb x y) [] ([] ∷ []); vars = v }
 eq-adder (c ∷ cols) x y v =

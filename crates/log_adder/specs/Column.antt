@@ -1,4 +1,6 @@
--- column
+-- A column of the adder of Ne, Ge and products, after `log_encoding_adder` of log.rs: its own literals, the incoming carry and a
+-- constant bit c add up to twice the outgoing carry plus the result bit. A carry is a list of ordered literals; its number is how
+-- many hold.
 use Prim.Native.Nat.{_*_, _+_, _-_, ℕ}
 use lib.ListN.{length}
 use mathlib.Core.List.{List, [], _++_, _∷_, map}
@@ -22,5 +24,6 @@ column-ge own carry c next r = enumerate (ge-terms own carry next r) (c + length
 abbrev pub column-le : List ℕ → List ℕ → ℕ → List ℕ → ℕ → Clauses
 column-le own carry c next r = enumerate (le-terms own carry next r) (2 * length next + 1 - c) []
 
+-- the two inequalities, in this order
 unfoldable pub column : List ℕ → List ℕ → ℕ → List ℕ → ℕ → Clauses
 column own carry c next r = column-ge own carry c next r ++ column-le own carry c next r

@@ -1,4 +1,5 @@
--- plain
+-- The adder of Eq in integers, definition by definition after `log_encoding_adder2` of log.rs: literals that count 1 or -1 in columns,
+-- carries with a least and a greatest value. And the terms of a column of `log_encoding_adder`.
 use Prim.Native.Nat.{_+_, suc, zero, ℕ}
 use lib.IntN.{_*ℤ_, _+ℤ_, _-ℤ_, negsuc, pos, ℤ}
 use lib.ListN.{length}
@@ -11,8 +12,6 @@ use Rattle.sat.specs.Fresh.{fresh}
 use Rattle.sat.specs.Lit.{neg}
 use Rattle.mixed.specs.Order.{LinearInfo, OrderEncoding, encode-eq, steps}
 use Rattle.log_adder.specs.Adder2.{Adder2Output, EncodedEq, dead-end, ordering, prepend, returned-set}
-
--- The adder of Eq -----------------------------------------------------------------------------------------------------
 
 -- a literal that counts 1, or -1
 pub record Signed : Type 0 where
@@ -40,6 +39,7 @@ abbrev pub greatest : List Signed → ℤ → ℤ
 greatest [] high = high
 greatest (s ∷ ss) high = greatest ss (cond (s .negative) high (high +ℤ pos 1))
 
+-- a literal as an order encoding of -1, 0 or of 0, 1
 abbrev pub signed-order : Signed → OrderEncoding
 signed-order s =
     cond
@@ -55,6 +55,7 @@ carry-order c = record { domain = steps (c .low) 1 (up (c .high -ℤ c .low)); l
 abbrev pub minus-twice : Carry → OrderEncoding
 minus-twice c = record { domain = map (λ x. x *ℤ negsuc 1) (reverse (carry-order c .domain)); lits = map neg (reverse (c .lits)) }
 
+-- an encoding with its coefficient
 abbrev pub info : ℤ → OrderEncoding → LinearInfo
 info k o = record { coef = k; encoding = o }
 
@@ -88,7 +89,7 @@ plain-adder2 own (c ∷ cols) i constant carry v =
       vars = rest .vars;
     }
 
--- the columns and the constant add up to 0
+-- the columns and the constant add up to 0; without a literal there is no column
 abbrev pub plain-eq-adder : SignedColumns → ℤ → ℕ → EncodedEq
 plain-eq-adder [] (pos zero) v = record { sent = []; returned = []; vars = v }
 plain-eq-adder [] (pos (suc k)) v = record { sent = []; returned = [] ∷ []; vars = v }
@@ -99,6 +100,7 @@ plain-eq-adder (c ∷ cols) k v =
 
 -- The adder of Ne, Ge and products ------------------------------------------------------------------------------------
 
+-- values from 0 on
 abbrev pub from-0 : List ℕ → OrderEncoding
 from-0 ls = record { domain = steps (pos 0) 1 (length ls); lits = ls }
 

@@ -1,4 +1,4 @@
--- compare
+-- The clauses of Ne and Ge over the bits of two sums (`ne-encodes`, `ge-encodes`).
 use Prim.Native.Nat.{_*_, _+_, _<_, _≤_, suc, ℕ}
 use borrow.Author.Tests.{eqb-false, ne-eqb, not-true}
 use lib.Dec.{eqb}

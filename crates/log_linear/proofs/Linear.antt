@@ -1,4 +1,4 @@
--- linear
+-- Sums of weighted literals: Ge, Ne and Eq (`linear-ge-encodes`, `linear-ne-encodes`, `linear-eq-encodes`).
 use Prim.Native.Nat.{_*_, _+_, _-_, _/_, _<_, _≤_, suc, zero, ℕ}
 use lib.ListN.{length}
 use mathlib.Core.Bool.{Bool, Bool·beq, So, cond, false, true}

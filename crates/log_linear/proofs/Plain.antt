@@ -1,4 +1,4 @@
--- plain
+-- The clauses of Eq in integers are those in natural numbers (`plain-linear-eq-is`).
 use Prim.Native.Nat.{_%_, _*_, _+_, _-_, _/_, _<_, suc, zero, ℕ}
 use lib.Dec.{eqb}
 use lib.IntN.{ℤ}
@@ -17,7 +17,7 @@ use Rattle.sat.specs.Number.{code-of}
 use Rattle.log_adder.specs.Adder2.{eq-adder}
 use Rattle.log_adder.specs.Gather.{Grid, grid-value, push-scaled, push-value}
 use Rattle.log_adder.specs.PlainAdder2.{Signed, SignedColumns}
-use Rattle.log_adder.proofs.Plain.{minuses, plain-eq-adder-is, turn, weights}
+use Rattle.log_adder.proofs.Plain.{minuses, plain-eq-adder-is, positive-lit, weights}
 use Rattle.log_linear.specs.Linear.{Weighted, gather, linear-eq, negated-constant, push-scaled-some, signed-sum}
 use Rattle.log_linear.specs.PlainLinear.{gather-signed, plain-linear-eq, push-lit, push-lits, push-scaled-lits, sign}
 use Rattle.log_linear.proofs.Linear.{WeightedBelow, linear-eq-encodes, push-scaled-some-value}
@@ -130,25 +130,25 @@ gather-signed-weights (p ∷ ps) cols b =
 
 -- Sums ---------------------------------------------------------------------------------------------------------------
 
-turn-minus : (ls : List ℕ) → map turn (map (sign true) ls) ≡ map neg ls
-turn-minus [] = refl
-turn-minus (l ∷ ls) = ap (λ ms. neg l ∷ ms) (turn-minus ls)
+positive-lits-minus : (ls : List ℕ) → map positive-lit (map (sign true) ls) ≡ map neg ls
+positive-lits-minus [] = refl
+positive-lits-minus (l ∷ ls) = ap (λ ms. neg l ∷ ms) (positive-lits-minus ls)
 
-turn-plus : (ls : List ℕ) → map turn (map (sign false) ls) ≡ ls
-turn-plus [] = refl
-turn-plus (l ∷ ls) = ap (λ ms. l ∷ ms) (turn-plus ls)
+positive-lits-plus : (ls : List ℕ) → map positive-lit (map (sign false) ls) ≡ ls
+positive-lits-plus [] = refl
+positive-lits-plus (l ∷ ls) = ap (λ ms. l ∷ ms) (positive-lits-plus ls)
 
-turn-part : (m : Bool) (ls : List ℕ) → map turn (map (sign m) ls) ≡ cond m (map neg ls) ls
-turn-part true ls = turn-minus ls
-turn-part false ls = turn-plus ls
+positive-lits-are : (m : Bool) (ls : List ℕ) → map positive-lit (map (sign m) ls) ≡ cond m (map neg ls) ls
+positive-lits-are true ls = positive-lits-minus ls
+positive-lits-are false ls = positive-lits-plus ls
 
-gather-signed-is : (ps : List Weighted) (cols : SignedColumns) → map (map turn) (gather-signed ps cols) ≡ gather ps (map (map turn) cols)
+gather-signed-is : (ps : List Weighted) (cols : SignedColumns) → map (map positive-lit) (gather-signed ps cols) ≡ gather ps (map (map positive-lit) cols)
 gather-signed-is [] cols = refl
 gather-signed-is (p ∷ ps) cols =
     let ss = map (sign (p .negative)) (p .lits) in
     gather-signed-is ps (push-scaled-lits 12 (p .coef) 0 ss cols)
     ∙ ap (gather ps)
-    (scattered turn (p .coef) ss cols ∙ ap (λ ls. push-scaled-some (p .coef) ls (map (map turn) cols)) (turn-part (p .negative) (p .lits)))
+    (scattered positive-lit (p .coef) ss cols ∙ ap (λ ls. push-scaled-some (p .coef) ls (map (map positive-lit) cols)) (positive-lits-are (p .negative) (p .lits)))
 
 -- the same clauses sent, the same returned and the same variables
 pub plain-linear-eq-is : (ps : List Weighted) (k : ℤ) (v : ℕ) → Small ps → plain-linear-eq ps k v ≡ linear-eq ps (up k) (down k) v

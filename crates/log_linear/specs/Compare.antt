@@ -1,4 +1,4 @@
--- compare
+-- The clauses of Ne and Ge over the bits of two sums, the lowest first, after `encode_linear_log_from_encodings` of log.rs.
 use Prim.Native.Nat.{_*_, suc, ℕ}
 use mathlib.Core.List.{List, [], _++_, _∷_}
 use Rattle.sat.specs.Clause.{Clauses}
@@ -10,7 +10,7 @@ abbrev pub xor-gate : ℕ → ℕ → ℕ → Clauses
 xor-gate aux p n =
     (neg aux ∷ p ∷ n ∷ []) ∷ (neg aux ∷ neg p ∷ neg n ∷ []) ∷ (aux ∷ p ∷ neg n ∷ []) ∷ (aux ∷ neg p ∷ n ∷ []) ∷ []
 
--- some bit differs: `front` holds the literals gathered so far
+-- Ne: some bit differs; `front` holds the literals gathered so far
 abbrev pub ne-bits : List ℕ → List ℕ → List ℕ → ℕ → EncodedRule
 ne-bits [] ns front v = record { clauses = (front ++ ns) ∷ []; vars = v }
 ne-bits (p ∷ ps) [] front v = record { clauses = (front ++ (p ∷ ps)) ∷ []; vars = v }
@@ -31,16 +31,17 @@ sub-gate next p n sub =
     ∷ (p ∷ n ∷ neg sub ∷ next ∷ [])
     ∷ []
 
+-- bits that are all 0
 abbrev pub none-of : List ℕ → Clauses
 none-of [] = []
 none-of (n ∷ ns) = (neg n ∷ []) ∷ none-of ns
 
--- sub says that of the bits passed, those of p make no less than those of n
+-- Ge past the first bit: sub says that the bits of p passed make no less than those of n
 abbrev pub ge-from : List ℕ → List ℕ → ℕ → ℕ → EncodedRule
 ge-from [] ns sub v = record { clauses = (sub ∷ []) ∷ none-of ns; vars = v }
 ge-from (p ∷ ps) [] sub v = record { clauses = (sub ∷ p ∷ ps) ∷ []; vars = v }
 ge-from (p ∷ ps) (n ∷ ns) sub v = after-clauses (sub-gate (2 * v) p n sub) (ge-from ps ns (2 * v) (suc v))
 
--- an adder has at least one bit
+-- Ge; a sum has at least one bit
 abbrev pub ge-first : ℕ → List ℕ → ℕ → List ℕ → ℕ → EncodedRule
 ge-first p ps n ns v = after-clauses (first-gate (2 * v) p n) (ge-from ps ns (2 * v) (suc v))

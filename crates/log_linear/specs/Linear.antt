@@ -1,4 +1,5 @@
--- linear
+-- The clauses of a sum of weighted literals, after `encode_linear_log_from_encodings` of log.rs, in natural numbers: the terms that
+-- count positive with a constant a, those that count negative with a constant b.
 use Prim.Native.Nat.{_%_, _*_, _+_, _-_, _/_, suc, zero, ℕ}
 use lib.ListN.{length}
 use mathlib.Core.Bool.{Bool, Bool·beq, cond, false, true}
@@ -13,38 +14,40 @@ use Rattle.log_adder.specs.Adder2.{EncodedEq, eq-adder}
 use Rattle.log_adder.specs.Gather.{Grid, push-scaled}
 use Rattle.log_linear.specs.Compare.{ge-first, ne-bits, none-of}
 
--- a setting's literals, and a coefficient below 4,096 with its sign
+-- a number's literals, the lowest bit first, with a coefficient below 4,096 and its sign
 pub record Weighted : Type 0 where
   pub negative : Bool
   pub coef : ℕ
   pub lits : List ℕ
 
--- what the parts of one sign come to
+-- what the terms of one sign come to
 abbrev pub signed-sum : Bool → Assignment → List Weighted → ℕ
 signed-sum s α [] = 0
 signed-sum s α (p ∷ ps) = cond (Bool·beq s (p .negative)) (p .coef * code-of α (p .lits)) 0 + signed-sum s α ps
 
--- Ne and Ge: the parts of one sign, in columns
+-- Ne and Ge: the terms of one sign in columns
 abbrev pub gather-sign : Bool → List Weighted → Grid → Grid
 gather-sign s [] grid = grid
 gather-sign s (p ∷ ps) grid = gather-sign s ps (cond (Bool·beq s (p .negative)) (push-scaled 12 (p .coef) 0 (p .lits) grid) grid)
 
--- a constant's bits, in the columns and past them, of at most f bits
+-- the constant's bits, in the columns and past them, of which there are at most f
 abbrev pub with-constant : ℕ → Grid → ℕ → List AdderColumn
 with-constant f (c ∷ cols) k = record { own = c; constant = k % 2 } ∷ with-constant f cols (k / 2)
 with-constant zero [] k = []
 with-constant (suc f) [] zero = []
 with-constant (suc f) [] (suc k) = record { own = []; constant = suc k % 2 } ∷ with-constant f [] (suc k / 2)
 
+-- the sum of the terms of one sign and a constant; there is at least one column
 abbrev pub sign-adder : Bool → List Weighted → ℕ → ℕ → EncodedBits
 sign-adder s ps k v = adder (with-constant 32 (gather-sign s ps ([] ∷ [])) k) [] [] v
 
--- of lists that may be empty: those of the two sums are not
+-- Ge of any two lists of bits
 abbrev pub ge-bits : List ℕ → List ℕ → ℕ → EncodedRule
 ge-bits [] ns v = record { clauses = none-of ns; vars = v }
 ge-bits (p ∷ ps) [] v = record { clauses = (p ∷ ps) ∷ []; vars = v }
 ge-bits (p ∷ ps) (n ∷ ns) v = ge-first p ps n ns v
 
+-- the positive part, then the negative part, then the comparison of their bits
 abbrev pub compare : (List ℕ → List ℕ → ℕ → EncodedRule) → EncodedBits → (ℕ → EncodedBits) → EncodedRule
 compare test pos neg-from =
     let neg = neg-from (pos .vars) in
@@ -57,21 +60,25 @@ linear-ge ps a b v = compare ge-bits (sign-adder false ps a v) (λ w. sign-adder
 abbrev pub linear-ne : List Weighted → ℕ → ℕ → ℕ → EncodedRule
 linear-ne ps a b v = compare (λ p n w. ne-bits p n [] w) (sign-adder false ps a v) (λ w. sign-adder true ps b w)
 
--- Eq: a part that counts negative by its negated literals, each one less; no literal, no column
+-- Eq: a term that counts negative, by its negated literals
 abbrev pub positive-lits : Weighted → List ℕ
 positive-lits p = cond (p .negative) (map neg (p .lits)) (p .lits)
 
+-- no literal makes no column
 abbrev pub push-scaled-some : ℕ → List ℕ → Grid → Grid
 push-scaled-some k [] grid = grid
 push-scaled-some k (l ∷ ls) grid = push-scaled 12 k 0 (l ∷ ls) grid
 
+-- the terms in columns
 abbrev pub gather : List Weighted → Grid → Grid
 gather [] grid = grid
 gather (p ∷ ps) grid = gather ps (push-scaled-some (p .coef) (positive-lits p) grid)
 
+-- what the negated literals add too much
 abbrev pub negated-constant : List Weighted → ℕ
 negated-constant [] = 0
 negated-constant (p ∷ ps) = cond (p .negative) (p .coef * (shl (length (p .lits)) 1 - 1)) 0 + negated-constant ps
 
+-- the columns have to reach b + what was added too much - a
 abbrev pub linear-eq : List Weighted → ℕ → ℕ → ℕ → EncodedEq
 linear-eq ps a b v = eq-adder (gather ps []) (a - (b + negated-constant ps)) (b + negated-constant ps - a) v

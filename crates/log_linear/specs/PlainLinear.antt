@@ -1,4 +1,4 @@
--- plain
+-- The clauses of Eq in integers, after `encode_linear_log_from_encodings` of log.rs: each literal in its column with its sign.
 use Prim.Native.Nat.{_%_, _/_, suc, zero, ℕ}
 use lib.Dec.{eqb}
 use lib.IntN.{ℤ}
@@ -7,8 +7,6 @@ use mathlib.Core.List.{List, [], _++_, _∷_, map}
 use Rattle.log_adder.specs.Adder2.{EncodedEq}
 use Rattle.log_adder.specs.PlainAdder2.{Signed, SignedColumns, plain-eq-adder}
 use Rattle.log_linear.specs.Linear.{Weighted}
-
--- Gathering the literals of a sum ------------------------------------------------------------------------------------
 
 -- a literal at the end of column o
 abbrev pub push-lit : ℕ → Signed → SignedColumns → SignedColumns
@@ -22,7 +20,7 @@ abbrev pub push-lits : ℕ → List Signed → SignedColumns → SignedColumns
 push-lits o [] cols = cols
 push-lits o (s ∷ ss) cols = push-lits (suc o) ss (push-lit o s cols)
 
--- once for each bit of a coefficient, of at most f bits
+-- once for each set bit of a coefficient, of at most f bits
 abbrev pub push-scaled-lits : ℕ → ℕ → ℕ → List Signed → SignedColumns → SignedColumns
 push-scaled-lits zero k o ss cols = cols
 push-scaled-lits (suc f) k o ss cols = push-scaled-lits f (k / 2) (suc o) ss (cond (eqb (k % 2) 1) (push-lits o ss cols) cols)
@@ -30,10 +28,11 @@ push-scaled-lits (suc f) k o ss cols = push-scaled-lits f (k / 2) (suc o) ss (co
 abbrev pub sign : Bool → ℕ → Signed
 sign m l = record { negative = m; lit = l }
 
+-- the terms in columns
 abbrev pub gather-signed : List Weighted → SignedColumns → SignedColumns
 gather-signed [] cols = cols
 gather-signed (p ∷ ps) cols = gather-signed ps (push-scaled-lits 12 (p .coef) 0 (map (sign (p .negative)) (p .lits)) cols)
 
--- the parts and the constant add up to 0
+-- the terms and the constant k add up to 0
 abbrev pub plain-linear-eq : List Weighted → ℤ → ℕ → EncodedEq
 plain-linear-eq ps k v = plain-eq-adder (gather-signed ps []) k v

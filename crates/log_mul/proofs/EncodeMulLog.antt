@@ -1,7 +1,7 @@
 -- A product's clauses can be completed by new variables exactly when x's number times y's is m's, in one way
 -- (`encode-mul-log-encodes`). The Eq part is the plain form's (`product-with-offsets-plain`).
-use Prim.Native.Nat.{_*_, _+_, _<_, zero, ℕ}
-use lib.IntN.{_*ℤ_, _-ℤ_, negsuc, negℤ, pos, ℤ}
+use Prim.Native.Nat.{_*_, _+_, _<_, ℕ}
+use lib.IntN.{_*ℤ_, negsuc, negℤ, pos, ℤ}
 use mathlib.Core.Bool.{Bool, _&&_, cond, false, false≢true, true}
 use mathlib.Core.List.{List, [], _++_, _∷_}
 use mathlib.Core.Logic.{_↔_}
@@ -10,7 +10,7 @@ use native.Mathlib.Omega.{arith}
 use Rattle.arithmetic.specs.Integers.{down, up}
 use Rattle.arithmetic.proofs.Integers.{add-read, mul-read, neg-reads, same-read}
 use Rattle.sat.specs.Clause.{Assignment}
-use Rattle.sat.specs.Encoded.{EncodedBits, EncodedRule}
+use Rattle.sat.specs.Encoded.{EncodedBits}
 use Rattle.sat.specs.Encodes.{Agree, Any, Encodes, LitsBelow}
 use Rattle.sat.specs.Number.{code-of}
 use Rattle.sat.proofs.Extend.{agree-sym, compose, front-below, front-sat, lits-below-more, means, relist}

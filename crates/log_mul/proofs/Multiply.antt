@@ -3,7 +3,7 @@
 use Prim.Native.Nat.{_*_, _+_, _/_, _<_, _≤_, suc, ℕ}
 use lib.ListN.{drop, length}
 use mathlib.Core.Bool.{Bool, Bool·beq, So, _&&_, _||_, cond, false, not, true}
-use mathlib.Core.List.{List, [], _++_, _∷_}
+use mathlib.Core.List.{List, [], _∷_}
 use mathlib.Core.Logic.{_↔_}
 use mathlib.Core.Path.{_∙_, _≡_, ap, ap₂, refl, sym}
 use native.Mathlib.Nat.{zero-mul}

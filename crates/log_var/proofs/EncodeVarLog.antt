@@ -11,11 +11,10 @@ use mathlib.Core.Logic.{Iff·trans, _↔_}
 use mathlib.Core.Path.{_∙_, _≡_, ap, refl, sym}
 use native.Mathlib.Omega.{arith}
 use Rattle.arithmetic.specs.Bits.{bit-length, shl, testbit}
-use Rattle.arithmetic.specs.Integers.{down, up}
 use Rattle.arithmetic.specs.Offset.{code, offset-of, value}
 use Rattle.arithmetic.proofs.Bits.{bit-length-fits}
 use Rattle.arithmetic.proofs.Integers.{<ℤ-le, less-read, order-read, ≤ℤ-trans}
-use Rattle.arithmetic.proofs.Offset.{code-read, code-value, offset-low, value-code, value-low, value-read}
+use Rattle.arithmetic.proofs.Offset.{code-read, code-value, offset-low, value-code, value-read}
 use Rattle.sat.specs.Clause.{Assignment, holds, sat}
 use Rattle.sat.specs.Encodes.{Any, Encodes, LitsBelow}
 use Rattle.sat.specs.Fresh.{fresh}
@@ -23,12 +22,11 @@ use Rattle.sat.specs.Number.{code-of}
 use Rattle.sat.proofs.Extend.{holds-agree, over, over-agree, over-new}
 use Rattle.sat.proofs.Fresh.{fresh-below, length-fresh}
 use Rattle.sat.proofs.Number.{code-neg, fresh-code, fresh-same}
-use Rattle.norm_csp.specs.Domain.{IntVarRepresentation, IsValue, OneOf, RisingFrom, binary, last-from, list, range}
+use Rattle.norm_csp.specs.Domain.{IntVarRepresentation, IsValue, binary, last-from, list, range}
 use Rattle.log_var.specs.Binary.{binary-bits}
-use Rattle.log_var.specs.Domain.{domain-clauses, gaps}
-use Rattle.log_var.specs.EncodeVarLog.{EncodedVar, Encodable, encode-binary, encode-domain, encode-var-log}
+use Rattle.log_var.specs.Domain.{gaps}
+use Rattle.log_var.specs.EncodeVarLog.{EncodedVar, Encodable, encode-domain, encode-var-log}
 use Rattle.log_var.specs.EncodesVar.{EncodesVar}
-use Rattle.log_var.specs.LogEncoding.{get-int-value}
 use Rattle.log_var.proofs.Binary.{binary-below, binary-encodes, binary-sat, binary-unique}
 use Rattle.log_var.proofs.Codes.{codes-are, codes-rise, codes-top}
 use Rattle.log_var.proofs.Domain.{RisingCodes, among, among-greatest, among-le, bounds-sat, domain-below, gaps-sat, last-code, rising-le}

@@ -1,4 +1,5 @@
--- order
+-- The clauses of one inequality in integers are those of `enumerate`, with the upper bound as slack (`encode-sub-is`,
+-- `encode-ge-is`), over order encodings whose values are evenly apart.
 use Prim.Native.Nat.{_*_, _+_, _-_, _/_, _<_, suc, zero, ℕ}
 use borrow.Author.Tests.{le-leb, leb-false, lt-leb}
 use lib.Dec.{leb}

@@ -1,4 +1,5 @@
--- The clauses of one inequality.
+-- The clauses of one inequality, after `encode_sub` of mixed.rs: they say that what the terms lack of their greatest values, added
+-- up, is at most the slack. `Order` has the same in integers, as the Rust writes it, and proofs/Order that the two are equal.
 use Prim.Native.Nat.{_*_, _-_, _/_, suc, ℕ}
 use lib.Dec.{leb}
 use lib.ListN.{getD, length}
@@ -7,7 +8,8 @@ use mathlib.Core.List.{List, [], _++_, _∷_}
 use Rattle.sat.specs.Clause.{Clauses}
 use Rattle.mixed.specs.Terms.{Term}
 
--- the term misses the threshold l, at a cost: where the slack does not allow that, the clause says that it may not
+-- The threshold l is missed, at a cost: where the slack allows that, `more` goes on with what is left of it; else the clause, with l
+-- at its end, says that it may not.
 abbrev pub missed : (ℕ → List ℕ → Clauses) → ℕ → ℕ → ℕ → List ℕ → Clauses
 missed more cost l slack prefix =
     cond (leb cost slack) (more (slack - cost) (prefix ++ (l ∷ []))) ((prefix ++ (l ∷ [])) ∷ [])
@@ -22,6 +24,7 @@ abbrev pub final : ℕ → List ℕ → ℕ → List ℕ → Clauses
 final w ls slack prefix =
     cond (leb (w * length ls) slack) [] ((prefix ++ (getD ls (length ls - slack / w - 1) 0 ∷ [])) ∷ [])
 
+-- going down through the terms left, with the clause begun
 abbrev pub enumerate : List Term → ℕ → List ℕ → Clauses
 enumerate [] slack prefix = []
 enumerate (t ∷ []) slack prefix = final (t .weight) (t .lits) slack prefix

@@ -1,4 +1,5 @@
--- plain
+-- The clauses of one inequality in integers, definition by definition after `LinearInfoForOrderEncoding` of order.rs and
+-- `encode_linear_ge_mixed_from_info` of mixed.rs. `min_relax_on_erasure` is left out: without direct encodings it is always `None`.
 use Prim.Native.Nat.{_-_, suc, zero, ℕ}
 use lib.IntN.{_*ℤ_, _+ℤ_, _-ℤ_, negsuc, negℤ, pos, ℤ}
 use lib.ListN.{getD, length}
@@ -37,11 +38,12 @@ abbrev pub at-least : LinearInfo → ℕ → ℕ
 at-least t j =
     cond (ltZ (pos 0) (t .coef)) (getD (t .encoding .lits) (j - 1) 0) (neg (getD (t .encoding .lits) (domain-size t - 1 - j) 0))
 
+-- `ExtendedLit`
 pub data Extended : Type 0 where
   always never : Extended
   lit : ℕ → Extended
 
--- the first of the numbers below n that passes the test
+-- the first of the numbers below n that passes the test; the Rust finds it by halving
 abbrev pub first : (ℕ → Bool) → ℕ → ℕ
 first test zero = 0
 first test (suc n) = cond (test 0) 0 (suc (first (λ j. test (suc j)) n))
@@ -69,7 +71,7 @@ abbrev pub unless-below : ℤ → List ℕ → Clauses → Clauses
 unless-below (negsuc b) clause more = clause ∷ []
 unless-below (pos b) clause more = more
 
--- the terms left, the clause so far and the upper bound
+-- `encode_sub`: the terms left, the clause so far and the upper bound
 abbrev pub encode-sub : List LinearInfo → List ℕ → ℤ → Clauses
 encode-sub [] clause bound = unless-below bound clause []
 encode-sub (t ∷ []) clause bound = unless-below bound clause (with-lit clause (at-least-val t (negℤ (bound -ℤ domain-max t))))
@@ -79,6 +81,7 @@ encode-sub (t ∷ u ∷ ts) clause bound =
     ++ encode-sub (u ∷ ts) clause bound in
     unless-below bound clause more
 
+-- the greatest value of the constant and the terms
 abbrev pub upper-bound : List LinearInfo → ℤ → ℤ
 upper-bound [] bound = bound
 upper-bound (t ∷ ts) bound = upper-bound ts (bound +ℤ domain-max t)
@@ -90,7 +93,7 @@ encode-ge ts constant = encode-sub ts [] (upper-bound ts constant)
 abbrev pub negated : LinearInfo → LinearInfo
 negated t = record { coef = negℤ (t .coef); encoding = t .encoding }
 
--- to 0
+-- they add up to 0: `encode_linear_eq_mixed_from_info`
 abbrev pub encode-eq : List LinearInfo → ℤ → Clauses
 encode-eq ts constant = encode-ge ts constant ++ encode-ge (map negated ts) (negℤ constant)
 

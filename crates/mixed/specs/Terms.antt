@@ -1,4 +1,4 @@
--- The terms of one inequality.
+-- The terms of one inequality, without negative numbers: what each lacks of its greatest value.
 use Prim.Native.Nat.{_*_, _+_, _-_, _<_, ℕ}
 use lib.ListN.{length}
 use mathlib.Core.List.{List, [], _++_, _∷_}
@@ -15,11 +15,12 @@ pub record Term : Type 0 where
 abbrev pub term : ℕ → List ℕ → Term
 term w ls = record { weight = w; lits = ls }
 
--- the thresholds of minus a number, from those of the number
+-- the thresholds of minus a number, from those of the number: negated, from the last
 abbrev pub flip : List ℕ → List ℕ
 flip [] = []
 flip (l ∷ ls) = flip ls ++ (neg l ∷ [])
 
+-- literals that count 1 each
 abbrev pub singles : List ℕ → List Term
 singles [] = []
 singles (l ∷ ls) = term 1 (l ∷ []) ∷ singles ls
@@ -32,7 +33,7 @@ abbrev pub losses : Assignment → List Term → ℕ
 losses α [] = 0
 losses α (t ∷ ts) = loss α t + losses α ts
 
--- what the last term asks: only one of its thresholds is looked at, so its literals have to fall
+-- what the last term asks: only one of its thresholds is looked at, so its literals have to be ordered
 abbrev pub LastMonotone : Assignment → List Term → Type 0
 LastMonotone α [] = Unit
 LastMonotone α (t ∷ []) = (0 < t .weight) × Monotone α (t .lits)

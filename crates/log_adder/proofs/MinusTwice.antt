@@ -1,4 +1,4 @@
--- twice
+-- -2 times a carry, as log.rs writes it: an order encoding whose values are 2 apart.
 use Prim.Native.Nat.{_*_, _+_, suc, zero, ℕ}
 use lib.IntN.{_*ℤ_, _+ℤ_, _-ℤ_, negsuc, negℤ, pos, ℤ}
 use lib.ListN.{length}

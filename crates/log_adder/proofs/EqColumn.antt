@@ -1,4 +1,4 @@
--- balance
+-- One column of Eq: its ordering clauses and its two inequalities.
 use Prim.Native.Nat.{_*_, _+_, _≤_, suc, ℕ}
 use lib.ListN.{length, length-map}
 use mathlib.Core.Bool.{Bool, So, _&&_, _||_, cond, false, not, true}
