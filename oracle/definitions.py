@@ -44,6 +44,7 @@ use Rattle.norm_csp.specs.Domain.{binary, list, range}
 use Rattle.norm_csp.specs.Rules.{LinearTerm, eq, ge, ne}
 use Rattle.log_var.specs.EncodeVarLog.{EncodedVar, encode-var-log}
 use Rattle.log_var.specs.LogEncoding.{LogEncoding, no-encoding}
+use Rattle.mixed.specs.Enumerate.{bounded, enumerate}
 use Rattle.log_adder.specs.Adder2.{eq-column}
 use Rattle.log_adder.specs.Column.{column}
 use Rattle.log_linear.specs.EncodeLinearLog.{encode-linear-log}
@@ -170,7 +171,7 @@ def write_crate(scratch, made):
         text = [HEAD]
         for j, (of, left, right) in enumerate(part):
             text.append(
-                f"e{j} : _≡_ {{A = {of}}} ({left}) ({right})\nunfolding neg column eq-column\ne{j} = refl\n"
+                f"e{j} : _≡_ {{A = {of}}} ({left}) ({right})\nunfolding neg column eq-column enumerate bounded\ne{j} = refl\n"
             )
         (crate / "proofs" / f"E{i}.antt").write_text("\n".join(text))
 

@@ -13,13 +13,14 @@ use Rattle.arithmetic.proofs.Integers.{same-read}
 use Rattle.arithmetic.proofs.Tests.{never}
 use Rattle.sat.specs.Clause.{Clauses, holds, sat}
 use Rattle.sat.specs.Lit.{neg}
+use Rattle.mixed.specs.Enumerate.{bounded, enumerate}
 use Rattle.log_adder.specs.Adder2.{eq-column}
 use Rattle.log_adder.specs.Column.{column}
 use Rattle.log_var.specs.EncodeVarLog.{encode-var-log}
 use Rattle.encoder.specs.Bench.{Barred, Row, RowHolds, all-barred, bench, row-test, same-lits, setting, sum, table-test}
 
 bench-test : So (table-test bench)
-unfolding neg holds column eq-column
+unfolding neg holds column eq-column enumerate bounded
 bench-test = refl
 
 same-lits-are : (xs ys : List ℕ) → So (same-lits xs ys) → xs ≡ ys

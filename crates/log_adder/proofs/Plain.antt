@@ -275,6 +275,7 @@ plain-eq-adder-is (c ∷ cols) k v =
 -- The adder of Ne, Ge and products -----------------------------------------------------------------------------------
 
 bounded-in : (us : List Term) (a b n : ℕ) → b ≤ a → a - b ≡ n → bounded us a b ≡ enumerate us n []
+unfolding bounded
 bounded-in us a b n h e = rw (le-leb b a h, e)
 
 module _ (carry next : List ℕ) (r : ℕ) where

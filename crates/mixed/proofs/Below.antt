@@ -59,12 +59,14 @@ module _ (v : ℕ) where
       go false = (longer, tt)
 
   pub enumerate-below : (ts : List Term) (s : ℕ) (p : List ℕ) → Terms v ts → LitsBelow v p → ClausesBelow v (enumerate ts s p)
+  unfolding enumerate
   enumerate-below [] s p b q = tt
   enumerate-below (t ∷ []) s p b q = final-below (t .weight) (t .lits) s p (b .0) q
   enumerate-below (t ∷ u ∷ ts) s p b q =
       branch-below (enumerate (u ∷ ts)) (λ s′ p′ q′. enumerate-below (u ∷ ts) s′ p′ (b .1) q′) (t .weight) (t .lits) s p (b .0) q
 
 pub bounded-below : (v : ℕ) (ts : List Term) (a b : ℕ) → Terms v ts → ClausesBelow v (bounded ts a b)
+unfolding bounded
 bounded-below v ts a b h = go (leb b a)
   where
     go : (t : Bool) → ClausesBelow v (cond t (enumerate ts (a - b) []) ([] ∷ []))

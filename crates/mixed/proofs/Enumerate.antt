@@ -66,6 +66,7 @@ final-sat α w ls pos f s p = go (leb (w * length ls) s) refl
 
 pub enumerate-sat : (α : Assignment) (ts : List Term) → LastMonotone α ts
     → (s : ℕ) (p : List ℕ) → sat α (enumerate ts s p) ≡ (clause-sat α p || leb (losses α ts) s)
+unfolding enumerate
 enumerate-sat α [] f s p = rw (le-leb 0 s (omega arith), or-true)
 enumerate-sat α (t ∷ []) f s p = rw add-zero (final-sat α (t .weight) (t .lits) (f .0) (f .1) s p)
 enumerate-sat α (t ∷ u ∷ ts) f s p =
@@ -103,6 +104,7 @@ singles-within α own t ts f s =
 -- an inequality of single literals and further terms
 pub bounded-sat : (α : Assignment) (own : List ℕ) (t : Term) (ts : List Term) → LastMonotone α (t ∷ ts) → (a b : ℕ)
     → So (sat α (bounded (singles own ++ (t ∷ ts)) a b)) ↔ (length own + losses α (t ∷ ts) + b ≤ a + count α own)
+unfolding bounded
 bounded-sat α own t ts f a b = go (leb b a) refl
   where
     go : (c : Bool) → leb b a ≡ c

@@ -164,6 +164,7 @@ module _ (t : LinearInfo) (u : Term) (even : Even t u) (rest : List ℕ → ℤ 
 
 pub encode-sub-is : (ts : List LinearInfo) (us : List Term) → Evens ts us → (p : List ℕ) (bound : ℤ)
     → encode-sub ts p bound ≡ unless-below bound p (enumerate us (up bound) p)
+unfolding enumerate
 encode-sub-is [] [] e p bound = refl
 encode-sub-is [] (u ∷ us) e p bound = absurd e
 encode-sub-is (t ∷ ts) [] e p bound = absurd e
@@ -177,6 +178,7 @@ encode-sub-is (t ∷ t′ ∷ ts) (u ∷ u′ ∷ us) e p (pos s) =
 
 pub encode-ge-is : (ts : List LinearInfo) (us : List Term) → Evens ts us → (k : ℤ) (a b : ℕ)
     → up (upper-bound ts k) + b ≡ down (upper-bound ts k) + a → encode-ge ts k ≡ bounded us a b
+unfolding bounded
 encode-ge-is ts us e k a b h = encode-sub-is ts us e [] (upper-bound ts k) ∙ at-bound us (upper-bound ts k) a b [] h
 
 -- Terms whose domain has a constant step -----------------------------------------------------------------------------
@@ -301,4 +303,5 @@ stepped-evens (s ∷ ss) = (go (s .negative), stepped-evens ss)
 -- the clause so far where the bound is below 0 (at the start, the lone empty clause), else the clauses of `enumerate`
 pub encode-sub-steps : (ss : List Stepped) (p : List ℕ) (bound : ℤ)
     → encode-sub (map stepped-info ss) p bound ≡ unless-below bound p (enumerate (map stepped-term ss) (up bound) p)
+unfolding enumerate
 encode-sub-steps ss p bound = encode-sub-is (map stepped-info ss) (map stepped-term ss) (stepped-evens ss) p bound

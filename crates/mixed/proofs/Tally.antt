@@ -40,6 +40,7 @@ module _ (weigh : ℕ → ℕ) where
       go false = snoc p l
 
   pub enumerate-tally : (ts : List Term) (s : ℕ) (p : List ℕ) → weight-of weigh (enumerate ts s p) ≡ tally weigh (shapes ts) s (length p)
+  unfolding enumerate
   enumerate-tally [] s p = refl
   enumerate-tally (t ∷ []) s p = go (leb (t .weight * length (t .lits)) s)
     where

@@ -25,11 +25,11 @@ final w ls slack prefix =
     cond (leb (w * length ls) slack) [] ((prefix ++ (getD ls (length ls - slack / w - 1) 0 ∷ [])) ∷ [])
 
 -- going down through the terms left, with the clause begun
-abbrev pub enumerate : List Term → ℕ → List ℕ → Clauses
+unfoldable pub enumerate : List Term → ℕ → List ℕ → Clauses
 enumerate [] slack prefix = []
 enumerate (t ∷ []) slack prefix = final (t .weight) (t .lits) slack prefix
 enumerate (t ∷ u ∷ ts) slack prefix = branch (enumerate (u ∷ ts)) (t .weight) (t .lits) slack prefix
 
 -- the clauses of an inequality whose slack is a - b; below 0, no choice will do
-abbrev pub bounded : List Term → ℕ → ℕ → Clauses
+unfoldable pub bounded : List Term → ℕ → ℕ → Clauses
 bounded ts a b = cond (leb b a) (enumerate ts (a - b) []) ([] ∷ [])
