@@ -3,3 +3,5 @@ pub mod Enumerate
 pub mod Below
 pub mod Order
 pub mod Tally
+pub mod Infos
+pub mod Bound

@@ -2,3 +2,4 @@ pub mod Terms
 pub mod Enumerate
 pub mod Order
 pub mod Tally
+pub mod Infos

@@ -1,0 +1,35 @@
+-- The terms of an inequality as the code holds them.
+use Prim.Native.Nat.{_*_, _+_, _-_, _<_, _^_, suc, zero, ℕ}
+use lib.ListN.{drop, getD, take}
+use mathlib.Core.Bool.{cond, false}
+use mathlib.Core.List.{List, [], _∷_}
+use Rattle.sat.specs.Lit.{neg}
+use Rattle.mixed.specs.Terms.{Term}
+use Rattle.mixed.specs.declared.LinearInfo.{LinearInfo}
+
+-- the literal of threshold i, from 0: that of variable i, or, falling, the negations from the last variable down
+unfoldable pub info-lit : LinearInfo → ℕ → ℕ
+info-lit t i = cond (t .falling) (neg (t .first .0 + 2 * (t .count - 1 - i))) (t .first .0 + 2 * i)
+
+-- the last k thresholds
+abbrev pub thresholds : LinearInfo → ℕ → List ℕ
+thresholds t zero = []
+thresholds t (suc k) = info-lit t (t .count - suc k) ∷ thresholds t k
+
+abbrev pub info-term : LinearInfo → Term
+info-term t = record { weight = t .weight; lits = thresholds t (t .count) }
+
+-- a term whose literals are numbers of a u32
+pub record Small (t : LinearInfo) : Type 0 where
+  pub top : t .first .0 + 2 * t .count < 2 ^ 32
+
+-- the empty term, which stands in spare places
+abbrev pub no-info : LinearInfo
+no-info = record { weight = 0; falling = false; first = record { 0 = 0 }; count = 0 }
+
+abbrev pub AllSmall : List LinearInfo → Type 0
+AllSmall ts = (k : ℕ) → Small (getD ts k no-info)
+
+-- the terms from `at` on, of the first n
+abbrev pub infos-left : List LinearInfo → ℕ → ℕ → List LinearInfo
+infos-left ts n at = drop at (take n ts)
