@@ -13,7 +13,7 @@ use Rattle.sat.specs.Encoded.{EncodedRule}
 use Rattle.sat.specs.Lit.{neg}
 use Rattle.norm_csp.specs.Domain.{IntVarRepresentation, binary, list, range}
 use Rattle.norm_csp.specs.Rules.{CmpOp, LinearTerm, eq}
-use Rattle.mixed.specs.Tally.{entries}
+use Rattle.sat.specs.Size.{entries}
 use Rattle.log_var.specs.EncodeVarLog.{encode-var-log}
 use Rattle.log_var.specs.LogEncoding.{LogEncoding, no-encoding}
 use Rattle.log_linear.specs.EncodeLinearLog.{encode-linear-log}

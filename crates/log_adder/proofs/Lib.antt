@@ -5,3 +5,4 @@ pub mod EqColumn
 pub mod Adder2
 pub mod MinusTwice
 pub mod Plain
+pub mod Size

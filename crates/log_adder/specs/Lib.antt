@@ -3,3 +3,4 @@ pub mod Adder
 pub mod Gather
 pub mod Adder2
 pub mod PlainAdder2
+pub mod Size

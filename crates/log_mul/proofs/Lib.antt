@@ -1,2 +1,3 @@
 pub mod Multiply
 pub mod EncodeMulLog
+pub mod Size

@@ -3,3 +3,4 @@ pub mod Domain
 pub mod Binary
 pub mod EncodeVarLog
 pub mod EncodesVar
+pub mod Size

@@ -7,20 +7,13 @@ use mathlib.Core.List.{List, [], _++_, _∷_}
 use mathlib.Core.Path.{_∙_, _≡_, ap, ap₂, refl, sym}
 use native.Mathlib.Omega.{arith}
 use Rattle.sat.specs.Clause.{Clauses}
+use Rattle.sat.specs.Size.{entries, weight-of}
+use Rattle.sat.proofs.Size.{weight-append, weight-entries, weight-length}
 use Rattle.mixed.specs.Enumerate.{branch, enumerate, missed}
-use Rattle.mixed.specs.Tally.{entries, shapes, tally, tally-branch}
+use Rattle.mixed.specs.Tally.{shapes, tally, tally-branch}
 use Rattle.mixed.specs.Terms.{Term}
 
--- what clauses count, where one of d literals counts `weigh d`
-abbrev pub weight-of : (ℕ → ℕ) → Clauses → ℕ
-weight-of weigh [] = 0
-weight-of weigh (c ∷ cs) = weigh (length c) + weight-of weigh cs
-
 module _ (weigh : ℕ → ℕ) where
-  weight-append : (a b : Clauses) → weight-of weigh (a ++ b) ≡ weight-of weigh a + weight-of weigh b
-  weight-append [] b = omega arith
-  weight-append (c ∷ a) b = omega (arith, weight-append a b)
-
   snoc : (p : List ℕ) (l : ℕ) → weigh (length (p ++ (l ∷ []))) + 0 ≡ weigh (length p + 1)
   snoc p l = rw length-append (omega arith)
 
@@ -29,7 +22,7 @@ module _ (weigh : ℕ → ℕ) where
       → weight-of weigh (branch more w ls s p) ≡ tally-branch weigh count w (length ls) s (length p)
   branch-tally more count ih w [] s p = ih s p
   branch-tally more count ih w (l ∷ ls) s p =
-      weight-append (missed more c l s p) (branch more w ls s p) ∙ ap₂ (λ x y. x + y) (go (leb c s)) (branch-tally more count ih w ls s p)
+      weight-append weigh (missed more c l s p) (branch more w ls s p) ∙ ap₂ (λ x y. x + y) (go (leb c s)) (branch-tally more count ih w ls s p)
     where
       c : ℕ
       c = w * suc (length ls)
@@ -54,14 +47,6 @@ module _ (weigh : ℕ → ℕ) where
       branch-tally (enumerate (u ∷ ts)) (tally weigh (shapes (u ∷ ts))) (enumerate-tally (u ∷ ts)) (t .weight) (t .lits) s p
 
 -- the two counts
-weight-length : (cs : Clauses) → weight-of (λ d. 1) cs ≡ length cs
-weight-length [] = refl
-weight-length (c ∷ cs) = omega (arith, weight-length cs)
-
-weight-entries : (cs : Clauses) → weight-of (λ d. d) cs ≡ entries cs
-weight-entries [] = refl
-weight-entries (c ∷ cs) = omega (arith, weight-entries cs)
-
 pub clause-count : (ts : List Term) (s : ℕ) → length (enumerate ts s []) ≡ tally (λ d. 1) (shapes ts) s 0
 clause-count ts s = sym (weight-length (enumerate ts s [])) ∙ enumerate-tally (λ d. 1) ts s []
 

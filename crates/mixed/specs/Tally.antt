@@ -4,7 +4,6 @@ use lib.Dec.{leb}
 use lib.ListN.{length}
 use mathlib.Core.Bool.{cond}
 use mathlib.Core.List.{List, [], _∷_}
-use Rattle.sat.specs.Clause.{Clauses}
 use Rattle.mixed.specs.Terms.{Term}
 
 -- a term's weight and how many thresholds it has
@@ -16,12 +15,7 @@ abbrev pub shapes : List Term → List Shape
 shapes [] = []
 shapes (t ∷ ts) = record { weight = t .weight; size = length (t .lits) } ∷ shapes ts
 
--- literal entries of a list of clauses
-abbrev pub entries : Clauses → ℕ
-entries [] = 0
-entries (c ∷ cs) = length c + entries cs
-
--- Both counts in one walk: `weigh d` is what one clause of d literals counts, 1 or d. The clause begun has d literals.
+-- What `weight-of weigh` gives, in one walk. The clause begun has d literals.
 module _ (weigh : ℕ → ℕ) where
   abbrev pub tally-branch : (ℕ → ℕ → ℕ) → ℕ → ℕ → ℕ → ℕ → ℕ
   tally-branch more w zero slack d = more slack d

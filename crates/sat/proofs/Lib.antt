@@ -5,3 +5,4 @@ pub mod Extend
 pub mod Gate
 pub mod Fresh
 pub mod Number
+pub mod Size

@@ -5,3 +5,4 @@ pub mod Fresh
 pub mod Number
 pub mod Encodes
 pub mod Encoded
+pub mod Size
