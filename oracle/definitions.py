@@ -1,9 +1,10 @@
 #!/usr/bin/env python3
 """Compares the definitions of specs/ with the judge: definitions.py SCRATCH [--seed S] [--calls N] [--most M].
 
-Draws scripts until N accepted calls of each kind with at most M clauses are at hand, and writes a crate into the folder
-SCRATCH, which stands outside the repository: one example for each call, in which the checker computes the definition
-and compares it with the judge's answer. Then it runs the checker there. Nothing of it is kept.
+Draws scripts until N accepted calls of each kind with at most M clauses are at hand, and N sums and products, accepted
+or refused with 13, whose heights are looked at. It writes a crate into the folder SCRATCH, which stands outside the
+repository: one example for each call, in which the checker computes the definition and compares it with the judge's
+answer. Then it runs the checker there. Nothing of it is kept.
 """
 
 import argparse
@@ -30,6 +31,7 @@ KINDS = {
     "shifted": "shifted",
     "same": "same",
     "dead": "dead",
+    "heights": "heights",
 }
 PER_FILE = 100
 HEAD = """-- Definitions against the judge.
@@ -49,6 +51,19 @@ use Rattle.log_adder.specs.Adder2.{eq-column}
 use Rattle.log_adder.specs.Column.{column}
 use Rattle.log_linear.specs.EncodeLinearLog.{encode-linear-log}
 use Rattle.log_mul.specs.EncodeMulLog.{encode-mul-log}
+use mathlib.Core.Bool.{cond}
+use lib.Dec.{ltb}
+use Rattle.arithmetic.specs.Integers.{down, up}
+use Rattle.log_adder.specs.Size.{Reached, height}
+use Rattle.log_var.specs.Size.{setting-shape}
+use Rattle.log_linear.specs.EncodeLinearLog.{offset-constant}
+use Rattle.log_linear.specs.Size.{linear-reached, term-shapes}
+use Rattle.log_mul.specs.Size.{mul-reached}
+
+-- heights up to the first above 12
+abbrev tested : List Reached → List ℕ
+tested [] = []
+tested (r ∷ rs) = height r ∷ cond (ltb 12 (height r)) [] (tested rs)
 """
 
 
@@ -86,12 +101,28 @@ def expression(word, ints, settings, variables):
     if word == "mul":
         x, y, m = ints
         return f"encode-mul-log {int_map(settings)} {x} {y} {m} {variables}", "EncodedRule"
-    op = ("eq", "ne", "ge")[ints[0]]
-    terms = listed(
-        f"record {{ var = {v}; coef = {integer(c)} }}" for v, c in zip(ints[2::2], ints[3::2])
-    )
+    op, terms = sum_of(ints)
     call = f"encode-linear-log {int_map(settings)} {op} {integer(ints[1])} {terms} {variables}"
     return call, "EncodedRule"
+
+
+def sum_of(ints):
+    """Operation and terms of a sum."""
+    terms = zip(ints[2::2], ints[3::2])
+    records = (f"record {{ var = {v}; coef = {integer(c)} }}" for v, c in terms)
+    return ("eq", "ne", "ge")[ints[0]], listed(records)
+
+
+def heights(word, ints, settings):
+    """The heights of the columns reached, by definition."""
+    known = listed(map(encoding, settings))
+    if word == "mul":
+        shapes = " ".join(f"(setting-shape (getD {known} {i} no-encoding))" for i in ints)
+        return f"tested (mul-reached {shapes})"
+    op, terms = sum_of(ints)
+    constant = f"(offset-constant {int_map(settings)} {integer(ints[1])} {terms})"
+    shapes = f"(term-shapes (λ i. setting-shape (getD {known} i no-encoding)) {terms})"
+    return f"tested (linear-reached {op} {shapes} (up {constant}) (down {constant}))"
 
 
 def answer(word, made, clauses, variables):
@@ -104,6 +135,8 @@ def answer(word, made, clauses, variables):
 def kinds_of(call, script_kind):
     """The kinds that a call counts for."""
     word, ints, _, _, told = call
+    if script_kind == "heights":
+        return {"heights"} if told.reached else set()
     if word == "mul":
         return {script_kind}
     if word == "linear":
@@ -119,23 +152,28 @@ class Followed(Script):
         return []
 
 
-def accepted_calls(driver, rng, script_kind, most):
-    """The accepted calls of a script with few clauses, each with the job before and after it."""
+def calls_of(driver, rng, script_kind, most):
+    """The calls of a script to compare, each with the job before and after it."""
     script = Followed(driver)
     for line in Generator(script_kind, rng, driver).run(400):
         before = script.calls.job
         script.last = None
         script.line(line.encode())
         word, head, tail = parse(line.encode())
-        if word not in ("range", "list", "binary", "linear", "mul") or script.last.status:
+        told = script.last
+        if script_kind == "heights" and told and told.reached:
+            yield word, head + tail, before, script.calls.job, told
+        elif word not in ("range", "list", "binary", "linear", "mul") or told.status:
             continue
-        if len(script.last.clauses) <= most:
-            yield word, head + tail, before, script.calls.job, script.last
+        elif len(told.clauses) <= most:
+            yield word, head + tail, before, script.calls.job, told
 
 
-def example(word, ints, before, after, told):
+def example(kind, word, ints, before, after, told):
     """Type, definition and answer of one call."""
     settings = before.settings[: before.count]
+    if kind == "heights":
+        return "List ℕ", heights(word, ints, settings), listed(told.reached.heights)
     left, of = expression(word, ints, settings, before.variables)
     return of, left, answer(word, told.setting, told.clauses, after.variables)
 
@@ -147,10 +185,10 @@ def examples(driver, seed, calls, most):
     for kind, script_kind in KINDS.items():
         rng = random.Random(f"{kind} {seed}")
         while counts[kind] < calls:
-            for call in accepted_calls(driver, rng, script_kind, most):
+            for call in calls_of(driver, rng, script_kind, most):
                 if kind in kinds_of(call, script_kind) and counts[kind] < calls:
                     counts[kind] += 1
-                    made.append(example(*call))
+                    made.append(example(kind, *call))
     return counts, made
 
 
