@@ -54,7 +54,7 @@ pub flip-is : (ls : List ℕ) → map neg (reverse ls) ≡ flip ls
 flip-is [] = refl
 flip-is (l ∷ ls) = ap (map neg) (reverse-cons l ls) ∙ map-snoc neg (reverse ls) l ∙ ap (λ ms. ms ++ (neg l ∷ [])) (flip-is ls)
 
-flip-snoc : (ls : List ℕ) (l : ℕ) → flip (ls ++ (l ∷ [])) ≡ neg l ∷ flip ls
+pub flip-snoc : (ls : List ℕ) (l : ℕ) → flip (ls ++ (l ∷ [])) ≡ neg l ∷ flip ls
 flip-snoc [] l = refl
 flip-snoc (m ∷ ls) l = ap (λ ms. ms ++ (neg m ∷ [])) (flip-snoc ls l)
 

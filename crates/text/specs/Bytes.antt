@@ -1,0 +1,19 @@
+-- A text written into a lent slice, byte after byte from a place on. What passes the slice's end is dropped, and the place stops there.
+use Prim.Native.Nat.{_+_, min, ℕ}
+use lib.ListN.{length, set}
+use mathlib.Core.List.{List, [], _∷_}
+
+-- the slice, and the place that the next byte goes to
+pub record Text : Type 0 where
+  pub bytes : List ℕ
+  pub at : ℕ
+
+abbrev pub text : List ℕ → ℕ → Text
+text bytes at = record { bytes = bytes; at = at }
+
+abbrev pub put : Text → ℕ → Text
+put t b = text (set (t .bytes) (t .at) b) (min (t .at + 1) (length (t .bytes)))
+
+unfoldable pub write : Text → List ℕ → Text
+write t [] = t
+write t (b ∷ bs) = write (put t b) bs

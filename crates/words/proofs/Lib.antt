@@ -1,0 +1,5 @@
+pub mod Laws
+pub mod Signs
+pub mod Tokens
+pub mod ReadBack
+pub mod Examples
