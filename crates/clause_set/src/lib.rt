@@ -44,6 +44,29 @@ impl Clause {
     }
 }
 
+impl Clause {
+    pub fn one(a: Lit) -> Clause
+        ensures { λ r. ⌜ (r .len ≡ 1) × (clause-lits r ≡ a .0 ∷ []) ⌝ }
+    {
+        let none = Clause::empty();
+        none.with(a)
+    }
+
+    pub fn two(a: Lit, b: Lit) -> Clause
+        ensures { λ r. ⌜ (r .len ≡ 2) × (clause-lits r ≡ a .0 ∷ b .0 ∷ []) ⌝ }
+    {
+        let first = Clause::one(a);
+        first.with(b)
+    }
+
+    pub fn three(a: Lit, b: Lit, c: Lit) -> Clause
+        ensures { λ r. ⌜ (r .len ≡ 3) × (clause-lits r ≡ a .0 ∷ b .0 ∷ c .0 ∷ []) ⌝ }
+    {
+        let first = Clause::two(a, b);
+        first.with(c)
+    }
+}
+
 // Stores x at i; past the end nothing is stored.
 pub fn put(store: &mut [u32], i: usize, x: u32)
     ensures { λ r. ⌜ now (store .exit) ≡ set (now (store .entry)) i x ⌝ }

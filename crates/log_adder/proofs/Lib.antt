@@ -6,3 +6,8 @@ pub mod Adder2
 pub mod MinusTwice
 pub mod Plain
 pub mod Size
+pub mod ColumnTerms
+pub mod ColumnWritten
+pub mod OneColumn
+pub mod ColumnsLeft
+pub mod AdderLoops

@@ -41,3 +41,10 @@ pad-columns zero [] = []
 pad-columns (suc n) [] = record { own = []; constant = 0 } ∷ pad-columns n []
 pad-columns zero (c ∷ cols) = record { own = c; constant = 0 } ∷ pad-columns zero cols
 pad-columns (suc n) (c ∷ cols) = record { own = c; constant = 0 } ∷ pad-columns n cols
+
+-- the constant's bits, in the columns and past them, of which there are at most f
+abbrev pub with-constant : ℕ → Grid → ℕ → List AdderColumn
+with-constant f (c ∷ cols) k = record { own = c; constant = k % 2 } ∷ with-constant f cols (k / 2)
+with-constant zero [] k = []
+with-constant (suc f) [] zero = []
+with-constant (suc f) [] (suc k) = record { own = []; constant = suc k % 2 } ∷ with-constant f [] (suc k / 2)

@@ -17,12 +17,12 @@ use Rattle.sat.proofs.Extend.{agree-sym, compose, freely, lits-below-more, mean
 use Rattle.sat.proofs.Lits.{negs-below}
 use Rattle.sat.proofs.Number.{code-agree, code-neg}
 use Rattle.log_adder.specs.Adder.{AdderColumn, ColumnsBelow, columns-value}
-use Rattle.log_adder.specs.Gather.{Grid, GridBelow, grid-value, push-scaled}
+use Rattle.log_adder.specs.Gather.{Grid, GridBelow, grid-value, push-scaled, with-constant}
 use Rattle.log_adder.proofs.Adder.{adder-bits, adder-encodes, adder-length, adder-value}
 use Rattle.log_adder.proofs.Adder2.{eq-adder-encodes}
 use Rattle.log_adder.proofs.Gather.{push-scaled-below, push-scaled-length, push-scaled-value}
 use Rattle.log_linear.specs.Compare.{ne-bits}
-use Rattle.log_linear.specs.Linear.{Weighted, compare, gather, gather-sign, ge-bits, linear-eq, linear-ge, linear-ne, negated-constant, positive-lits, push-scaled-some, sign-adder, signed-sum, with-constant}
+use Rattle.log_linear.specs.Linear.{Weighted, compare, gather, gather-sign, ge-bits, linear-eq, linear-ge, linear-ne, negated-constant, positive-lits, push-scaled-some, sign-adder, signed-sum}
 use Rattle.log_linear.proofs.Compare.{ge-encodes, ne-encodes}
 
 -- parts over the first v variables, with coefficients below 4,096

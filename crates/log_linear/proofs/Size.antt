@@ -14,12 +14,12 @@ use Rattle.sat.proofs.Size.{RuleSize, has-size, weight-append}
 use Rattle.norm_csp.specs.Rules.{CmpOp, LinearTerm, eq, ge, ne}
 use Rattle.log_var.specs.LogEncoding.{LogEncoding}
 use Rattle.log_var.specs.Size.{setting-shape}
-use Rattle.log_adder.specs.Gather.{Grid, push-scaled}
+use Rattle.log_adder.specs.Gather.{Grid, push-scaled, with-constant}
 use Rattle.log_adder.specs.Size.{column-shape, own-counts, push-scaled-counts}
 use Rattle.log_adder.proofs.Size.{AdderSize, EqSize, adder-size, eq-adder-size, push-scaled-counts-are}
 use Rattle.log_linear.specs.Compare.{ge-from, ne-bits, none-of}
 use Rattle.log_linear.specs.EncodeLinearLog.{encode-linear-log, encode-weighted, offset-constant, weighted, weighted-terms}
-use Rattle.log_linear.specs.Linear.{Weighted, compare, gather, gather-sign, ge-bits, linear-eq, negated-constant, positive-lits, push-scaled-some, sign-adder, with-constant}
+use Rattle.log_linear.specs.Linear.{Weighted, compare, gather, gather-sign, ge-bits, linear-eq, negated-constant, positive-lits, push-scaled-some, sign-adder}
 use Rattle.log_linear.specs.Size.{compare-count, compare-vars, constant-shapes, gather-counts, ge-count, ge-from-count, linear-count, linear-log-size, linear-size, linear-vars, ne-count, negated-bits, push-some-counts, shape-of, sign-counts, sign-reached, sum-plus, sum-target, term-shapes, weighted-shape}
 
 -- Gathering -----------------------------------------------------------------------------------------------------------

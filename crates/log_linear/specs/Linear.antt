@@ -1,6 +1,6 @@
 -- The clauses of a sum of weighted literals, after `encode_linear_log_from_encodings` of log.rs, in natural numbers: the terms that
 -- count positive with a constant a, those that count negative with a constant b.
-use Prim.Native.Nat.{_%_, _*_, _+_, _-_, _/_, suc, zero, ℕ}
+use Prim.Native.Nat.{_*_, _+_, _-_, ℕ}
 use lib.ListN.{length}
 use mathlib.Core.Bool.{Bool, Bool·beq, cond, false, true}
 use mathlib.Core.List.{List, [], _++_, _∷_, map}
@@ -9,9 +9,9 @@ use Rattle.sat.specs.Clause.{Assignment}
 use Rattle.sat.specs.Encoded.{EncodedBits, EncodedRule}
 use Rattle.sat.specs.Lit.{neg}
 use Rattle.sat.specs.Number.{code-of}
-use Rattle.log_adder.specs.Adder.{AdderColumn, adder}
+use Rattle.log_adder.specs.Adder.{adder}
 use Rattle.log_adder.specs.Adder2.{EncodedEq, eq-adder}
-use Rattle.log_adder.specs.Gather.{Grid, push-scaled}
+use Rattle.log_adder.specs.Gather.{Grid, push-scaled, with-constant}
 use Rattle.log_linear.specs.Compare.{ge-first, ne-bits, none-of}
 
 -- a number's literals, the lowest bit first, with a coefficient below 4,096 and its sign
@@ -29,13 +29,6 @@ signed-sum s α (p ∷ ps) = cond (Bool·beq s (p .negative)) (p .coef * code-of
 abbrev pub gather-sign : Bool → List Weighted → Grid → Grid
 gather-sign s [] grid = grid
 gather-sign s (p ∷ ps) grid = gather-sign s ps (cond (Bool·beq s (p .negative)) (push-scaled 12 (p .coef) 0 (p .lits) grid) grid)
-
--- the constant's bits, in the columns and past them, of which there are at most f
-abbrev pub with-constant : ℕ → Grid → ℕ → List AdderColumn
-with-constant f (c ∷ cols) k = record { own = c; constant = k % 2 } ∷ with-constant f cols (k / 2)
-with-constant zero [] k = []
-with-constant (suc f) [] zero = []
-with-constant (suc f) [] (suc k) = record { own = []; constant = suc k % 2 } ∷ with-constant f [] (suc k / 2)
 
 -- the sum of the terms of one sign and a constant; there is at least one column
 abbrev pub sign-adder : Bool → List Weighted → ℕ → ℕ → EncodedBits

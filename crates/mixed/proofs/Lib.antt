@@ -5,3 +5,7 @@ pub mod Order
 pub mod Tally
 pub mod Infos
 pub mod Bound
+pub mod Stored
+pub mod Table
+pub mod TableWalk
+pub mod TableTells

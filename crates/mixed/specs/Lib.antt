@@ -3,3 +3,4 @@ pub mod Enumerate
 pub mod Order
 pub mod Tally
 pub mod Infos
+pub mod Table

@@ -1,12 +1,17 @@
 // The clauses of one inequality, after `encode_linear_ge_mixed_from_info` of mixed.rs. A call that is lent no entries only counts.
+// The thresholds of the terms go into one table (specs/Table), which the recursion reads; terms that do not fit take the plain recursion.
 ghost use mathlib.Core.Path.{_≡_};
 ghost use mathlib.Core.List.{[], _∷_, _++_, map};
 ghost use Prim.Native.Nat.{_+_, _-_, _*_, _^_, _≤_, _<_};
-ghost use lib.ListN.{length};
+ghost use lib.Dec.{leb, ltb};
+ghost use lib.ListN.{length, replicate, take};
+ghost use lib.Seq.{sets};
+ghost use mathlib.Core.Bool.{_&&_};
 ghost use Rattle.clause_set.specs.Clause.{clause-lits};
 ghost use Rattle.clause_set.specs.Stores.{Fits, add-clauses, after};
 ghost use Rattle.mixed.specs.Enumerate.{bounded, enumerate};
 ghost use Rattle.mixed.specs.Infos.{AllSmall, Small, info-lit, info-term, infos-left};
+ghost use Rattle.mixed.specs.Table.{Filled, SamePrefix, SoundTable, counts, put-last, put-rows, walk};
 use clause_set::Clause;
 use clause_set::Counts;
 use sat::Lit;
@@ -35,8 +40,240 @@ pub fn lit_at(t: LinearInfo, i: u32) -> Lit
     }
 }
 
+// A number, wider.
+fn wide(x: u32) -> usize
+    ensures { λ r. ⌜ (r ≡ x) × (r < 2 ^ 32) ⌝ }
+{
+    x as usize
+}
+
+// Stores a clause, the first m literals of the prefix and l, that lies inside the store.
+fn put_whole(lits: &mut [u32], prefix: &[u32; 24], m: usize, l: u32, from: usize)
+    requires { ⌜ (m < 24) × (length (now prefix) ≡ 24) × (from + m < length (now lits)) ⌝ }
+    ensures { λ r. ⌜ now (lits .exit) ≡ sets (now (lits .entry)) from (take m (now (prefix .entry)) ++ l ∷ []) ⌝ }
+{
+    let mut i: usize = 0;
+    while i < m {
+        lits[from + i] = prefix[i];
+        i += 1;
+    }
+    lits[from + m] = l;
+}
+
+// The same where the clause passes the store's end: entry by entry, and nothing where it begins there.
+fn put_inside(lits: &mut [u32], prefix: &[u32; 24], m: usize, l: u32, from: usize)
+    requires { ⌜ (m < 24) × (length (now prefix) ≡ 24) × (from < 2 ^ 32) ⌝ }
+    ensures { λ r. ⌜ now (lits .exit) ≡ sets (now (lits .entry)) from (take m (now (prefix .entry)) ++ l ∷ []) ⌝ }
+{
+    if from >= lits.len() {
+        return;
+    }
+    let mut i: usize = 0;
+    while i < m {
+        clause_set::put(lits, from + i, prefix[i]);
+        i += 1;
+    }
+    clause_set::put(lits, from + m, l);
+}
+
+// Adds the clause of the prefix and l. The counts are one number: 2 ^ 32 times the clauses, plus the literals.
+fn put_clause(
+    lits: &mut [u32],
+    ends: &mut [u32],
+    prefix: &[u32; 24],
+    m: usize,
+    l: u32,
+    base: u32,
+    at: u64,
+) -> u64
+    requires { ⌜ (m < 24) × (length (now prefix) ≡ 24) ⌝ }
+    requires { ⌜ Fits base (counts at) ((take m (now prefix) ++ l ∷ []) ∷ []) ⌝ }
+    ensures { λ r. ⌜ after (now (lits .exit)) (now (ends .exit)) (counts r) ≡ add-clauses base ((take m (now (prefix .entry)) ++ l ∷ []) ∷ []) (after (now (lits .entry)) (now (ends .entry)) (counts at)) ⌝ }
+{
+    let from = (at % 4294967296) as usize;
+    let k = (at / 4294967296) as usize;
+    if from + m < lits.len() {
+        put_whole(lits, prefix, m, l, from);
+    } else {
+        put_inside(lits, prefix, m, l, from);
+    }
+    clause_set::put(ends, k + 1, base + (from + m + 1) as u32);
+    at + 4294967297 + m as u64
+}
+
+// The clauses of the `left` thresholds before the last term, and of the last term, after the m literals of the prefix: going down
+// through the terms left, and no further where the slack covers what they can lose.
+fn encode_sub(
+    lits: &mut [u32],
+    ends: &mut [u32],
+    tab: &[u32; 120],
+    prefix: &mut [u32; 24],
+    m: usize,
+    left: usize,
+    slack: u32,
+    base: u32,
+    at: u64,
+) -> u64
+    requires { ⌜ (m + left < 24) × (length (now prefix) ≡ 24) ⌝ }
+    requires { ⌜ SoundTable (now tab) ⌝ }
+    requires { ⌜ Fits base (counts at) (walk (now tab) left slack (take m (now prefix))) ⌝ }
+    ensures { λ r. ⌜ after (now (lits .exit)) (now (ends .exit)) (counts r) ≡ add-clauses base (walk (now (tab .entry)) left slack (take m (now (prefix .entry)))) (after (now (lits .entry)) (now (ends .entry)) (counts at)) ⌝ }
+    ensures { λ r. ⌜ SamePrefix m (now (prefix .entry)) (now (prefix .exit)) ⌝ }
+{
+    let mut k = left;
+    let mut used = at;
+    while 0 < k {
+        if slack >= tab[72 + k] {
+            return used;
+        }
+        let cost = tab[24 + k];
+        if slack < cost {
+            used = put_clause(lits, ends, prefix, m, tab[k], base, used);
+        } else {
+            prefix[m] = tab[k];
+            let after_term = wide(tab[48 + k]);
+            let rest = slack - cost;
+            used = encode_sub(lits, ends, tab, prefix, m + 1, after_term, rest, base, used);
+        }
+        k -= 1;
+    }
+    if slack < tab[72] {
+        return put_clause(lits, ends, prefix, m, tab[96 + wide(slack)], base, used);
+    }
+    used
+}
+
+// The clauses that a table tells, from the first of its thresholds on.
+fn encode_table(
+    lits: &mut [u32],
+    ends: &mut [u32],
+    tab: &[u32; 120],
+    left: usize,
+    slack: u64,
+    base: u32,
+    at: Counts,
+) -> Counts
+    requires { ⌜ left < 24 ⌝ }
+    requires { ⌜ SoundTable (now tab) ⌝ }
+    requires { ⌜ Fits base at (walk (now tab) left slack []) ⌝ }
+    ensures { λ r. ⌜ after (now (lits .exit)) (now (ends .exit)) r ≡ add-clauses base (walk (now (tab .entry)) left slack []) (after (now (lits .entry)) (now (ends .entry)) at) ⌝ }
+{
+    let all = wide(tab[72 + left]) as u64;
+    if slack >= all {
+        return at;
+    }
+    let start = at.clauses as u64 * 4294967296 + at.lits as u64;
+    let mut prefix = [0u32; 24];
+    let used = encode_sub(
+        lits,
+        ends,
+        tab,
+        &mut prefix,
+        0,
+        left,
+        slack as u32,
+        base,
+        start,
+    );
+    Counts {
+        clauses: (used / 4294967296) as usize,
+        lits: (used % 4294967296) as usize,
+    }
+}
+
+// Whether the last term fits into a table.
+fn last_fits(t: LinearInfo) -> bool
+    ensures { λ r. ⌜ r ≡ leb (t .weight * t .count) 24 ⌝ }
+{
+    let w = t.weight as u64;
+    let n = t.count as u64;
+    w * n <= 24
+}
+
+// Whether a term fits into a table, before `left` thresholds and a loss of `lost`.
+fn term_fits(t: LinearInfo, left: usize, lost: u32) -> bool
+    requires { ⌜ left < 24 ⌝ }
+    ensures { λ r. ⌜ r ≡ (ltb (left + t .count) 24 && ltb (t .weight * t .count + lost) (2 ^ 32)) ⌝ }
+{
+    if left + t.count as usize >= 24 {
+        return false;
+    }
+    let w = t.weight as u64;
+    let n = t.count as u64;
+    w * n + (lost as u64) < 4294967296
+}
+
+// The last term's part of a table.
+fn add_last(tab: &mut [u32; 120], t: LinearInfo)
+    requires { ⌜ (length (now tab) ≡ 120) × (t .weight * t .count ≤ 24) ⌝ }
+    requires { ⌜ Small t ⌝ }
+    ensures { λ r. ⌜ now (tab .exit) ≡ put-last (now (tab .entry)) t ⌝ }
+{
+    let top = t.weight * t.count;
+    tab[72] = top;
+    let mut s: u32 = 0;
+    while s < top {
+        let covered = s / t.weight;
+        let l = lit_at(t, t.count - covered - 1);
+        tab[96 + wide(s)] = l.0;
+        s += 1;
+    }
+}
+
+// A term's thresholds, from the last, before `left` thresholds and a loss of `lost`.
+fn add_term(tab: &mut [u32; 120], left: usize, lost: u32, t: LinearInfo)
+    requires { ⌜ (length (now tab) ≡ 120) × (left + t .count < 24) × (t .weight * t .count + lost < 2 ^ 32) ⌝ }
+    requires { ⌜ Small t ⌝ }
+    ensures { λ r. ⌜ now (tab .exit) ≡ put-rows (now (tab .entry)) t left lost (t .count) ⌝ }
+{
+    let n = t.count;
+    let mut i: u32 = 0;
+    let mut cost: u32 = 0;
+    while i < n {
+        cost += t.weight;
+        let k = left + wide(i) + 1;
+        let l = lit_at(t, n - 1 - i);
+        tab[k] = l.0;
+        tab[24 + k] = cost;
+        tab[48 + k] = left as u32;
+        tab[72 + k] = cost + lost;
+        i += 1;
+    }
+}
+
+// The table of the terms, from the last: how many thresholds stand before the last term; or 24, where the terms do not fit.
+fn fill_table(tab: &mut [u32; 120], ts: [LinearInfo; 15], n: usize) -> usize
+    requires { ⌜ AllSmall ts ⌝ }
+    requires { ⌜ n ≤ 15 ⌝ }
+    requires { ⌜ now tab ≡ replicate 120 0 ⌝ }
+    ensures { λ r. ⌜ Filled (now (tab .exit)) (infos-left ts n 0) r ⌝ }
+{
+    if n == 0 {
+        return 0;
+    }
+    let mut i = n - 1;
+    let last = ts[i];
+    if !last_fits(last) {
+        return 24;
+    }
+    add_last(tab, last);
+    let mut left: usize = 0;
+    let mut lost = last.weight * last.count;
+    while 0 < i {
+        i -= 1;
+        let t = ts[i];
+        if !term_fits(t, left, lost) {
+            return 24;
+        }
+        add_term(tab, left, lost, t);
+        left += wide(t.count);
+        lost += t.weight * t.count;
+    }
+    left
+}
+
 // The clauses of the last term: at most one.
-pub fn push_last(
+fn push_last(
     lits: &mut [u32],
     ends: &mut [u32],
     t: LinearInfo,
@@ -61,8 +298,8 @@ pub fn push_last(
     }
 }
 
-// The clauses of the terms from `idx` on, after the clause begun: going down through the terms left.
-pub fn encode_sub(
+// The clauses of the terms from `idx` on, after the clause begun, with no table: going down through the terms left.
+fn encode_sub_plain(
     lits: &mut [u32],
     ends: &mut [u32],
     ts: [LinearInfo; 15],
@@ -94,11 +331,11 @@ pub fn encode_sub(
         if slack < cost {
             used = clause_set::push(lits, ends, next, base, used);
         } else {
-            used = encode_sub(lits, ends, ts, n, idx + 1, slack - cost, next, base, used);
+            used = encode_sub_plain(lits, ends, ts, n, idx + 1, slack - cost, next, base, used);
         }
         k -= 1;
     }
-    encode_sub(lits, ends, ts, n, idx + 1, slack, p, base, used)
+    encode_sub_plain(lits, ends, ts, n, idx + 1, slack, p, base, used)
 }
 
 // The clauses of the inequality whose slack is `above - below`; below 0, one empty clause.
@@ -120,15 +357,11 @@ pub fn inequality(
     if above < below {
         return clause_set::push(lits, ends, Clause::empty(), base, at);
     }
-    encode_sub(
-        lits,
-        ends,
-        ts,
-        n,
-        0,
-        above - below,
-        Clause::empty(),
-        base,
-        at,
-    )
+    let slack = above - below;
+    let mut tab = [0u32; 120];
+    let left = fill_table(&mut tab, ts, n);
+    if left < 24 {
+        return encode_table(lits, ends, &tab, left, slack, base, at);
+    }
+    encode_sub_plain(lits, ends, ts, n, 0, slack, Clause::empty(), base, at)
 }

@@ -1,0 +1,167 @@
+-- The invariants of the adder's two loops: to go on from here comes to what the whole would have given from the start.
+use mathlib.Core.Path.{_≡_, refl, ap, sym, _∙_}
+use mathlib.Core.Bool.{Bool, true, false, not}
+use mathlib.Core.List.{List, [], _∷_, map}
+use Prim.Native.Nat.{ℕ, _+_, _-_, _/_, _%_, _≤_, _<_}
+use native.Mathlib.Nat.{sub-zero}
+use native.Mathlib.Omega.{arith}
+use lib.Dec.{ltb}
+use lib.ListN.{length, take, drop, getD, replicate}
+use Rattle.sat.specs.declared.Lit.{Lit}
+use Rattle.clause_set.specs.declared.Counts.{Counts}
+use Rattle.log_adder.specs.declared.AdderInput.{AdderInput}
+use Rattle.log_adder.specs.declared.ColumnInput.{ColumnInput}
+use Rattle.log_adder.specs.declared.AdderState.{AdderState}
+use Rattle.clause_set.specs.Stores.{after}
+use Rattle.clause_set.proofs.Adding.{count-after, used-after}
+use Rattle.sat.specs.Encoded.{EncodedBits}
+use Rattle.log_adder.specs.Adder.{adder, extend, tail}
+use Rattle.log_adder.specs.ColumnInfo.{lit, num, range-lits}
+use Rattle.log_adder.specs.AdderState.{AdderAdded, AdderCounted, ColumnAdded, InBounds, Outcome, carry-count, given-lits, heights-fit, input-all, input-columns, outcome, state-bits, then}
+use Rattle.log_adder.proofs.ColumnsLeft.{add-column-then, adder-end, adder-step, extend-end, extend-step, given-result, given-tail, given-vars, heights-end, heights-step, heights-tall, then-no-more}
+
+-- The columns --------------------------------------------------------------------------------------------------
+
+module _ (cols : List (List Lit)) (counts : List ℕ) (given : List Lit) (g width : ℕ) where
+  abbrev gs : List ℕ
+  gs = map num (take g given)
+
+  -- column i of these
+  abbrev pub column-at : ℕ → ℕ → ColumnInput
+  column-at i k = record { own = getD cols i []; height = getD counts i 0; bit = k % 2; given = ltb i g; result = getD given i (lit 0) }
+
+  -- what is still to come
+  abbrev pub coming : ℕ → ℕ → AdderState → EncodedBits
+  coming i k s = adder (input-columns (width - i) i cols counts k) (range-lits (s .carry)) (drop i gs) (s .vars)
+
+  pub record Going (d₀ e₀ : List ℕ) (s₀ : AdderState) (k₀ : ℕ) (d e : List ℕ) (s : AdderState) (k i : ℕ) : Type 0 where
+    pub within : i ≤ width
+    pub steady : InBounds s
+    pub len : s .len ≡ i
+    pub lits-long : length d ≡ length d₀
+    pub ends-long : length e ≡ length e₀
+    pub heights : heights-fit width 0 counts k₀ (s₀ .carry .count) ≡ heights-fit (width - i) i counts k (s .carry .count)
+    pub same : then (after d₀ e₀ (s₀ .used)) (state-bits s₀) (adder (input-columns width 0 cols counts k₀) (range-lits (s₀ .carry)) gs (s₀ .vars)) ≡ then (after d e (s .used)) (state-bits s) (coming i k s)
+
+  pub going-start : (d e : List ℕ) (s : AdderState) (k : ℕ) → InBounds s → s .len ≡ 0 → Going d e s k d e s k 0
+  going-start d e s k z h =
+      record { within = omega arith; steady = z; len = h; lits-long = refl; ends-long = refl; heights = rw (sub-zero width); same = rw (sub-zero width) }
+
+  module _ {d₀ e₀ : List ℕ} {s₀ : AdderState} {k₀ : ℕ} {d e : List ℕ} {s : AdderState} {k i : ℕ} (go : Going d₀ e₀ s₀ k₀ d e s k i) where
+    pub going-turn : i < width → getD counts i 0 + s .carry .count ≤ 12 → g ≤ length given → (d′ e′ : List ℕ) (r : AdderState)
+        → length d′ ≡ length d → length e′ ≡ length e → ColumnAdded d e (column-at i k) s d′ e′ r → Going d₀ e₀ s₀ k₀ d′ e′ r (k / 2) (i + 1)
+    going-turn h high long d′ e′ r p q t =
+        let n : width - i - 1 ≡ width - (i + 1) = omega arith in
+        let size : (k % 2 + getD counts i 0 + s .carry .count) / 2 ≡ r .carry .count = sym (ap (λ x. x .count) (t .carry)) in
+        record {
+          within = omega arith;
+          steady = t .steady;
+          len = t .len ∙ ap (λ (x : ℕ). x + 1) (go .len);
+          lits-long = p ∙ go .lits-long;
+          ends-long = q ∙ go .ends-long;
+          heights = go .heights ∙ heights-step cols counts (width - i) i k (s .carry .count) (omega arith) high
+              ∙ (λ j. heights-fit (n j) (i + 1) counts (k / 2) (size j));
+          same = go .same
+              ∙ ap (then (after d e (s .used)) (state-bits s)) (adder-step cols counts (width - i) i k (range-lits (s .carry)) (drop i gs) (s .vars) (omega arith))
+              ∙ add-column-then t (omega arith) (drop i gs) (given-result given g long i (s .vars + carry-count (column-at i k) s)) (given-vars given g long i (s .vars + carry-count (column-at i k) s)) (λ next x. adder (input-columns (width - i - 1) (i + 1) cols counts (k / 2)) next (tail (drop i gs)) x)
+              ∙ (λ j. then (after d′ e′ (r .used)) (state-bits r) (adder (input-columns (n j) (i + 1) cols counts (k / 2)) (range-lits (r .carry)) (given-tail given g long i j) (r .vars)));
+        }
+
+    pub going-tall : i < width → 12 < getD counts i 0 + s .carry .count → true ≡ not (heights-fit width 0 counts k₀ (s₀ .carry .count))
+    going-tall h high = rw (go .heights, heights-tall cols counts (width - i) i k (s .carry .count) (omega arith) high)
+
+    pub going-fits : width ≤ i → false ≡ not (heights-fit width 0 counts k₀ (s₀ .carry .count))
+    going-fits h = rw (go .heights, heights-end cols counts (width - i) i k (s .carry .count) (omega arith))
+
+    pub going-end : width ≤ i
+        → then (after d₀ e₀ (s₀ .used)) (state-bits s₀) (adder (input-columns width 0 cols counts k₀) (range-lits (s₀ .carry)) gs (s₀ .vars))
+        ≡ then (after d e (s .used)) (state-bits s) (extend (s .carry .count) (range-lits (s .carry)) (s .vars))
+    going-end h = go .same ∙ ap (then (after d e (s .used)) (state-bits s)) (adder-end cols counts (width - i) i k (s .carry) (drop i gs) (s .vars) (omega arith))
+
+-- The carry-size past the columns ------------------------------------------------------------------------------
+
+-- no literals of its own
+abbrev pub empty-input : ColumnInput
+empty-input = record { own = replicate 12 (lit 0); height = 0; bit = 0; given = false; result = lit 0 }
+
+pub record Extending (d₀ e₀ : List ℕ) (s₀ : AdderState) (d e : List ℕ) (s : AdderState) (left : ℕ) : Type 0 where
+  pub steady : InBounds s
+  pub count : left ≡ s .carry .count
+  pub begun : s₀ .len ≤ s .len
+  pub fuel : s .len + left ≤ s₀ .len + s₀ .carry .count
+  pub room : s .len + left ≤ 32
+  pub lits-long : length d ≡ length d₀
+  pub ends-long : length e ≡ length e₀
+  pub same : then (after d₀ e₀ (s₀ .used)) (state-bits s₀) (extend (s₀ .carry .count) (range-lits (s₀ .carry)) (s₀ .vars))
+      ≡ then (after d e (s .used)) (state-bits s) (extend (s₀ .len + s₀ .carry .count - s .len) (range-lits (s .carry)) (s .vars))
+
+pub extending-start : (d e : List ℕ) (s : AdderState) → InBounds s → s .len + s .carry .count ≤ 32 → Extending d e s d e s (s .carry .count)
+extending-start d e s z h =
+    let f : s .carry .count ≡ s .len + s .carry .count - s .len = omega arith in
+    record {
+      steady = z;
+      count = refl;
+      begun = omega arith;
+      fuel = omega arith;
+      room = h;
+      lits-long = refl;
+      ends-long = refl;
+      same = ap (λ (x : ℕ). then (after d e (s .used)) (state-bits s) (extend x (range-lits (s .carry)) (s .vars))) f;
+    }
+
+module _ {d₀ e₀ : List ℕ} {s₀ : AdderState} {d e : List ℕ} {s : AdderState} {left : ℕ} (go : Extending d₀ e₀ s₀ d e s left) where
+  pub extending-turn : 0 < left → (d′ e′ : List ℕ) (r : AdderState) → length d′ ≡ length d → length e′ ≡ length e → ColumnAdded d e empty-input s d′ e′ r → Extending d₀ e₀ s₀ d′ e′ r (left / 2)
+  extending-turn h d′ e′ r p q t =
+      let f : ℕ = s₀ .len + s₀ .carry .count - s .len in
+      let e₁ : f - 1 ≡ s₀ .len + s₀ .carry .count - r .len = omega (arith, t .len, go .fuel) in
+      let size : r .carry .count ≡ (0 + 0 + s .carry .count) / 2 = ap (λ x. x .count) (t .carry) in
+      let n = go .count in
+      let fu = go .fuel in
+      let ro = go .room in
+      let be = go .begun in
+      let le = t .len in
+      record {
+        steady = t .steady;
+        count = omega arith;
+        begun = omega arith;
+        fuel = omega arith;
+        room = omega arith;
+        lits-long = p ∙ go .lits-long;
+        ends-long = q ∙ go .ends-long;
+        same = go .same
+            ∙ ap (then (after d e (s .used)) (state-bits s)) (extend-step f (s .carry) (s .vars) (omega arith) (omega arith))
+            ∙ add-column-then t (omega arith) [] refl (omega arith) (λ next x. extend (f - 1) next x)
+            ∙ ap (λ (x : ℕ). then (after d′ e′ (r .used)) (state-bits r) (extend x (range-lits (r .carry)) (r .vars))) e₁;
+      }
+
+  pub extending-end : left ≤ 0
+      → outcome d e s ≡ then (after d₀ e₀ (s₀ .used)) (state-bits s₀) (extend (s₀ .carry .count) (range-lits (s₀ .carry)) (s₀ .vars))
+  extending-end h =
+      let n = go .count in
+      then-no-more (after d e (s .used)) (state-bits s) (s .vars)
+      ∙ sym (go .same ∙ ap (then (after d e (s .used)) (state-bits s)) (extend-end (s₀ .len + s₀ .carry .count - s .len) (s .carry) (s .vars) (omega arith)))
+
+pub not-both : (b : Bool) → b ≡ true → b ≡ false → ⊥
+not-both b p q = let z : _≡_ {A = ℕ} 0 1 = cc in omega arith
+
+-- Counting -----------------------------------------------------------------------------------------------------------
+
+pub no-length : (l : List ℕ) → length l ≡ 0 → l ≡ []
+no-length [] e = refl
+no-length (x ∷ xs) e = absurd (omega arith)
+
+-- lent nothing, the adder counts
+pub counted : {d e : List ℕ} (cols : List (List Lit)) (counts : List ℕ) (given : List Lit) (p : AdderInput) (v : ℕ) (a : Counts) {d′ e′ : List ℕ} (r : AdderState)
+    → AdderAdded d e cols counts given p v a d′ e′ r → AdderCounted cols counts given p v a r
+counted {d} {e} cols counts given p v a r w =
+    record {
+      tall = w .tall;
+      done = λ f.
+          let sum : EncodedBits = adder (input-all cols counts p) [] (given-lits p given) v in
+          let o = w .done f .0 in (
+            ap (λ (x : Outcome). x .stores .used) o ∙ used-after 0 (sum .clauses) (after d e a),
+            ap (λ (x : Outcome). x .stores .count) o ∙ count-after 0 (sum .clauses) (after d e a),
+            ap (λ (x : Outcome). x .bits) o,
+            ap (λ (x : Outcome). x .vars) o,
+          );
+    }

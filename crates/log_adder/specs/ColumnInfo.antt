@@ -1,0 +1,53 @@
+-- A column as the code holds it.
+use Prim.Native.Nat.{ℕ, _+_, _*_, _^_, _≤_, _<_}
+use mathlib.Core.Bool.{Bool, not}
+use mathlib.Core.List.{List, [], _∷_, _++_, map}
+use lib.ListN.{take, getD}
+use Rattle.sat.specs.declared.Lit.{Lit}
+use Rattle.mixed.specs.declared.LinearInfo.{LinearInfo}
+use Rattle.log_adder.specs.declared.VarRange.{VarRange}
+use Rattle.log_adder.specs.declared.ColumnInfo.{ColumnInfo}
+use Rattle.sat.specs.Clause.{Clauses}
+use Rattle.log_adder.specs.Column.{column}
+use Rattle.sat.specs.Fresh.{fresh}
+
+abbrev pub num : Lit → ℕ
+num l = l .0
+
+abbrev pub lit : ℕ → Lit
+lit x = record { 0 = x }
+
+-- every literal of the array is a number below 2 ^ 31
+abbrev pub AllLow : List Lit → Type 0
+AllLow ls = (k : ℕ) → getD ls k (lit 0) .0 < 2 ^ 31
+
+-- the variables of a span, as literals
+abbrev pub range-lits : VarRange → List ℕ
+range-lits s = fresh (s .count) (s .first .0)
+
+abbrev pub own-lits : ColumnInfo → List ℕ
+own-lits c = map num (take (c .height) (c .own))
+
+-- the terms of a column as the code holds them
+abbrev pub lit-info : Bool → Lit → LinearInfo
+lit-info s l = record { weight = 1; falling = s; first = l; count = 1 }
+
+abbrev pub range-info : ℕ → Bool → VarRange → LinearInfo
+range-info w s p = record { weight = w; falling = s; first = lit (2 * p .first .0); count = p .count }
+
+abbrev pub column-infos : ColumnInfo → Bool → List LinearInfo
+column-infos c s = map (lit-info s) (take (c .height) (c .own)) ++ (range-info 1 s (c .carry) ∷ range-info 2 (not s) (c .next) ∷ lit-info (not s) (c .result) ∷ [])
+
+-- a column within bounds
+pub record ColumnSized (c : ColumnInfo) : Type 0 where
+  pub high : c .height + c .carry .count ≤ 12
+  pub next : c .next .count ≤ 6
+  pub bit : c .bit ≤ 1
+  pub first : c .carry .first .0 < 2 ^ 30
+  pub second : c .next .first .0 < 2 ^ 30
+  pub result : c .result .0 < 2 ^ 31
+  pub own : AllLow (c .own)
+
+-- the clauses of a column
+abbrev pub column-clauses : ColumnInfo → Clauses
+column-clauses c = column (own-lits c) (range-lits (c .carry)) (c .bit) (range-lits (c .next)) (c .result .0)

@@ -1,0 +1,4 @@
+pub mod Halves
+pub mod Ordering
+pub mod OrderingPass
+pub mod ColumnsPass

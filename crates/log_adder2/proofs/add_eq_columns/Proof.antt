@@ -1,0 +1,134 @@
+-- `log_adder2::add_eq_columns` meets its contract.
+use mathlib.Core.Path.{_≡_, refl, _∙_}
+use Prim.Native.Nat.{_-_}
+use native.Mathlib.Omega.{arith}
+use borrow.Author.Needs.{needs}
+use Rattle.log_adder2.proofs.add_eq_columns.Statement.{statement}
+use Rattle.log_adder2.proofs.add_eq_columns.Tie as tie
+use Rattle.log_adder2.proofs.ColumnsPass.{ColumnsLeft, not-tall, target-fits, columns-end, columns-start, columns-turn}
+
+abbrev Inv-loop : tie.InvT-loop
+Inv-loop lits₀ ends₀ cols counts last s₀ i₀ lits ends s i = ColumnsLeft cols counts last lits₀ ends₀ s₀ lits ends s i
+
+abbrev μ-loop : tie.MeasureT-loop
+μ-loop lits₀ ends₀ cols counts last s₀ i₀ lits ends s i = last - i
+
+sub-last : tie.Need-sub-last Inv-loop μ-loop
+sub-last c = let s = c .before .before .before in omega (arith, s .pre .0 .some)
+
+loop-holds : tie.Need-loop-holds Inv-loop μ-loop
+loop-holds c =
+    let s = c .before .before .before in
+    columns-start (s .args .t3) (s .args .t4) (s .args .lits .now) (s .args .ends .now) (s .args .g) (s .args .at) (s .pre .1 .0)
+    (record { not-tall = refl; live = refl; x = s .pre .0 .x; y = s .pre .0 .y; vars = omega (arith, s .pre .0 .vars); carry = omega arith; few = omega arith; lits = omega arith; clauses = omega arith })
+
+mul-own : tie.Need-mul-own Inv-loop μ-loop
+mul-own c = search needs
+
+array-copy-out-own : tie.Need-array-copy-out-own Inv-loop μ-loop
+array-copy-out-own c = let s = c .before .before .before .before .before in omega (arith, s .pre .0 .width)
+
+mul-add-next-column : tie.Need-mul-add-next-column Inv-loop μ-loop
+mul-add-next-column c = search needs
+
+array-read-add-next-column : tie.Need-array-read-add-next-column Inv-loop μ-loop
+array-read-add-next-column c = let s = c .before .before .before .before .before .before .before .before in omega (arith, s .pre .0 .width, c .before .before .before .loop-test)
+
+add-next-column-requires : tie.Need-add-next-column-requires Inv-loop μ-loop
+add-next-column-requires c κs =
+    let s = c .before .before .before .before .before .before .before .before in
+    let l = c .before .before .before .before .loop in
+    let h = c .before .before .before .loop-test .taken in (
+      record {
+        high = not-tall (s .args .t4) (s .args .g .width - 1 - l .i) (l .i) (l .s .x) (l .s .y) (l .s .carry .count) (l .inv .heights);
+        x = l .inv .level .x;
+        y = l .inv .level .y;
+        vars = omega (arith, l .inv .level, l .inv .within, s .pre .0 .width);
+        first = omega (arith, l .inv .level, l .inv .within, s .pre .0 .width);
+        own = s .pre .0 .own (l .i);
+        lits = omega (arith, l .inv .level .lits, l .inv .within, s .pre .0 .width, s .pre .1 .1);
+        clauses = omega (arith, l .inv .level .clauses, l .inv .within, s .pre .0 .width, s .pre .1 .1);
+      },
+      target-fits (s .args .t4) (s .args .g .width - 1 - l .i) (l .i) (l .s .x) (l .s .y) (l .s .carry .count) (l .s .vars) (omega arith) (l .inv .live),
+    )
+
+add-i : tie.Need-add-i Inv-loop μ-loop
+add-i c = let s = c .before .before .before .before .before .before .before .before .before .before .before .before .before in omega (arith, s .pre .0 .width, c .before .before .before .before .before .before .before .before .loop-test)
+
+loop-less : tie.Need-loop-less Inv-loop μ-loop
+loop-less c = search needs
+
+loop-again : tie.Need-loop-again Inv-loop μ-loop
+loop-again c =
+    let s = c .before .before .before .before .before .before .before .before .before .before .before .before .before in
+    let l = c .before .before .before .before .before .before .before .before .before .loop in
+    let w = c .before .before .before .before .add-next-column in
+    columns-turn (s .args .t3) (s .args .t4) (s .args .g .width - 1) (l .inv) (c .before .before .before .before .before .before .before .before .loop-test .taken) _ _ (w .result) (w .kept .0) (w .kept .1 .0) (w .ensures)
+
+mul-own-2 : tie.Need-mul-own-2 Inv-loop μ-loop
+mul-own-2 c = search needs
+
+array-copy-out-own-2 : tie.Need-array-copy-out-own-2 Inv-loop μ-loop
+array-copy-out-own-2 c = let s = c .before .before .before .before .before in omega (arith, s .pre .0 .width)
+
+mul-add-last-column : tie.Need-mul-add-last-column Inv-loop μ-loop
+mul-add-last-column c = search needs
+
+array-read-add-last-column : tie.Need-array-read-add-last-column Inv-loop μ-loop
+array-read-add-last-column c = let s = c .before .before .before .before .before .before .before .before in omega (arith, s .pre .0 .width)
+
+add-last-column-requires : tie.Need-add-last-column-requires Inv-loop μ-loop
+add-last-column-requires c κs =
+    let s = c .before .before .before .before .before .before .before .before in
+    let l = c .before .before .before .before .loop in
+    let e : l .i ≡ s .args .g .width - 1 = omega (arith, l .inv .within, c .before .before .before .loop-test) in
+    rw (← e)
+    (record {
+      high = not-tall (s .args .t4) (s .args .g .width - 1 - l .i) (l .i) (l .s .x) (l .s .y) (l .s .carry .count) (l .inv .heights);
+      x = l .inv .level .x;
+      y = l .inv .level .y;
+      vars = omega (arith, l .inv .level, l .inv .within, s .pre .0 .width);
+      first = omega (arith, l .inv .level, l .inv .within, s .pre .0 .width);
+      own = s .pre .0 .own (l .i);
+      lits = omega (arith, l .inv .level .lits, l .inv .within, s .pre .0 .width, s .pre .1 .1);
+      clauses = omega (arith, l .inv .level .clauses, l .inv .within, s .pre .0 .width, s .pre .1 .1);
+    })
+
+same-length : tie.Need-same-length Inv-loop μ-loop
+same-length c = c .before .before .before .before .add-last-column .kept .0 ∙ c .before .before .before .before .before .before .before .before .before .loop .inv .lits-long
+
+same-length-2 : tie.Need-same-length-2 Inv-loop μ-loop
+same-length-2 c = c .before .before .before .before .add-last-column .kept .1 .0 ∙ c .before .before .before .before .before .before .before .before .before .loop .inv .ends-long
+
+returns : tie.Need-returns Inv-loop μ-loop
+returns c =
+    let s = c .before .before .before .before .before .before .before .before .before .before .before .before .before in
+    let l = c .before .before .before .before .before .before .before .before .before .loop in
+    let w = c .before .before .before .before .add-last-column in
+    let e : l .i ≡ s .args .g .width - 1 = omega (arith, l .inv .within, c .before .before .before .before .before .before .before .before .loop-test) in
+    columns-end (s .args .t3) (s .args .t4) (s .args .g .width - 1) (l .inv) (c .before .before .before .before .before .before .before .before .loop-test .left) _ _ (w .result) (rw e (w .ensures))
+
+pub add-eq-columns-spec : {M : Type 1} → statement M
+add-eq-columns-spec =
+    tie.close
+    (tie.spec
+    Inv-loop
+    μ-loop
+    sub-last
+    loop-holds
+    mul-own
+    array-copy-out-own
+    mul-add-next-column
+    array-read-add-next-column
+    add-next-column-requires
+    add-i
+    loop-less
+    loop-again
+    mul-own-2
+    array-copy-out-own-2
+    mul-add-last-column
+    array-read-add-last-column
+    add-last-column-requires
+    same-length
+    same-length-2
+    returns)

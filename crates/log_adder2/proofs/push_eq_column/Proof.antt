@@ -1,0 +1,102 @@
+-- `log_adder2::push_eq_column` meets its contract.
+use mathlib.Core.Path.{_≡_, sym, _∙_}
+use mathlib.Core.Bool.{true, false}
+use native.Mathlib.Omega.{arith}
+use lib.ListN.{length, length-map}
+use borrow.Author.Needs.{needs}
+use Rattle.log_adder2.proofs.push_eq_column.Statement.{statement}
+use Rattle.log_adder2.proofs.push_eq_column.Tie as tie
+use Rattle.log_adder2.proofs.Halves.{first-fits, second, second-fits, two-terms}
+
+-- the array of own literals has 12 places
+own-long : (c : tie.Start) → length (c .args .c .own) ≡ 12
+own-long c = sym (length-map (c .args .c .own) _) ∙ c .good .1 .1 .0 .1 .1 .0 .1 .0 .1
+
+cast-n : tie.Need-cast-n
+cast-n c = search needs
+
+cast-most : tie.Need-cast-most
+cast-most c = search needs
+
+add-most : tie.Need-add-most
+add-most c = search needs
+
+cast-most-2 : tie.Need-cast-most-2
+cast-most-2 c = search needs
+
+add-most-2 : tie.Need-add-most-2
+add-most-2 c = search needs
+
+cast-least : tie.Need-cast-least
+cast-least c = search needs
+
+mul-least : tie.Need-mul-least
+mul-least c = search needs
+
+add-least : tie.Need-add-least
+add-least c = search needs
+
+infos-requires : tie.Need-infos-requires
+infos-requires c κs = search needs
+
+add-inequality : tie.Need-add-inequality
+add-inequality c = search needs
+
+inequality-requires : tie.Need-inequality-requires
+inequality-requires c κs =
+    let s = c .before .before .before .before .before .before .before .before .before .before .before in
+    (c .infos .ensures .1, (omega (arith, s .pre .0), first-fits (s .args .c) (s .pre .0) (s .args .x) (s .args .y) (s .args .base) (s .pre .1) (s .args .lits .now) (s .args .ends .now) _ (two-terms (s .args .c) false _ (s .pre .0) (own-long s) (c .infos .ensures .0))))
+
+infos-requires-2 : tie.Need-infos-requires-2
+infos-requires-2 c κs = search needs
+
+add-inequality-2 : tie.Need-add-inequality-2
+add-inequality-2 c = search needs
+
+inequality-requires-2 : tie.Need-inequality-requires-2
+inequality-requires-2 c κs =
+    let s = c .before .before .before .before .before .before .before .before .before .before .before .before .before .before .before .before .before .before .before in
+    let i = c .before .before .before .before .before .before .before .inequality in (
+      c .infos2 .ensures .1,
+      (
+        omega (arith, s .pre .0),
+        second-fits (s .args .c) (s .pre .0) (s .args .x) (s .args .y) (s .args .base) (s .pre .1) (s .args .lits .now) (s .args .ends .now) _ _ (i .result) _ (two-terms (s .args .c) false _ (s .pre .0) (own-long s) (c .before .before .before .before .before .before .before .before .infos .ensures .0)) (i .ensures)
+            _ (two-terms (s .args .c) true _ (s .pre .0) (own-long s) (c .infos2 .ensures .0)),
+      ),
+    )
+
+same-length : tie.Need-same-length
+same-length c = search needs
+
+same-length-2 : tie.Need-same-length-2
+same-length-2 c = search needs
+
+returns : tie.Need-returns
+returns c =
+    let s = c .before .before .before .before .before .before .before .before .before .before .before .before .before .before .before .before .before .before .before .before .before .before .before .before in
+    let i = c .before .before .before .before .before .before .before .before .before .before .before .before .inequality in
+    let j = c .before .before .before .before .inequality2 in
+    second (s .args .c) (s .pre .0) (s .args .x) (s .args .y) (s .args .base) (s .pre .1) (s .args .lits .now) (s .args .ends .now) _ _ (i .result) _ (two-terms (s .args .c) false _ (s .pre .0) (own-long s) (c .before .before .before .before .before .before .before .before .before .before .before .before .before .infos .ensures .0)) (i .ensures)
+    _ _ (j .result) _ (two-terms (s .args .c) true _ (s .pre .0) (own-long s) (c .before .before .before .before .before .infos2 .ensures .0)) (own-long s) (j .ensures)
+
+pub push-eq-column-spec : {M : Type 1} → statement M
+push-eq-column-spec =
+    tie.close
+    (tie.spec
+    cast-n
+    cast-most
+    add-most
+    cast-most-2
+    add-most-2
+    cast-least
+    mul-least
+    add-least
+    infos-requires
+    add-inequality
+    inequality-requires
+    infos-requires-2
+    add-inequality-2
+    inequality-requires-2
+    same-length
+    same-length-2
+    returns)

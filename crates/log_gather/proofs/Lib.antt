@@ -1,0 +1,4 @@
+pub mod Pushing
+pub mod Widths
+pub mod Constants
+pub mod EqColumns

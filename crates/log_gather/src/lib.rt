@@ -1,0 +1,151 @@
+// Literals gathered into columns by weight. Counts run past 12 without storing: only a column that is reached is refused.
+ghost use mathlib.Core.Path.{_≡_};
+ghost use mathlib.Core.Bool.{cond};
+ghost use mathlib.Core.List.{[], _∷_, map};
+ghost use lib.Dec.{eqb};
+ghost use lib.ListN.{replicate};
+ghost use Prim.Native.Nat.{max, _+_, _%_, _^_, _≤_, _<_};
+ghost use Rattle.sat.specs.Lit.{neg};
+ghost use Rattle.log_adder.specs.ColumnInfo.{AllLow};
+ghost use Rattle.log_adder.specs.Gather.{push-scaled, push-value};
+ghost use Rattle.log_gather.specs.Arrays.{AllSmall, Arrays, Few, Holds, Pushed, lits-of, widths};
+use sat::Lit;
+
+// Literal l at the end of column w.
+fn push_lit(cols: [[Lit; 12]; 32], counts: &mut [u32; 32], w: usize, l: Lit) -> [[Lit; 12]; 32]
+    requires { ⌜ (w < 32) × (l .0 < 2 ^ 31) × Arrays cols (now counts) × Few 2147483000 (now counts) ⌝ }
+    ensures { λ r. ⌜ Pushed 1 cols (now (counts .entry)) (push-value w (l .0 ∷ [])) r (now (counts .exit)) ⌝ }
+{
+    let n = counts[w];
+    counts[w] = n + 1;
+    if 12 <= n {
+        return cols;
+    }
+    let at = n as usize;
+    let mut out = cols;
+    out[w][at] = l;
+    out
+}
+
+// Literal j of the first n at the end of column o + j.
+fn push_value(
+    cols: [[Lit; 12]; 32],
+    counts: &mut [u32; 32],
+    lits: [Lit; 12],
+    n: usize,
+    o: usize,
+) -> [[Lit; 12]; 32]
+    requires { ⌜ (n ≤ 12) × (o ≤ 20) × AllLow lits ⌝ }
+    requires { ⌜ Arrays cols (now counts) × Few 2147482000 (now counts) ⌝ }
+    ensures { λ r. ⌜ Pushed n cols (now (counts .entry)) (push-value o (lits-of lits n)) r (now (counts .exit)) ⌝ }
+{
+    let mut out = cols;
+    let mut j: usize = 0;
+    while j < n {
+        let l = lits[j];
+        let next = push_lit(out, counts, o + j, l);
+        out = next;
+        j += 1;
+    }
+    out
+}
+
+// The same where the lowest bit of k is 1.
+fn push_bit(
+    cols: [[Lit; 12]; 32],
+    counts: &mut [u32; 32],
+    lits: [Lit; 12],
+    n: usize,
+    o: usize,
+    k: u32,
+) -> [[Lit; 12]; 32]
+    requires { ⌜ (n ≤ 12) × (o ≤ 20) × AllLow lits ⌝ }
+    requires { ⌜ Arrays cols (now counts) × Few 2147482000 (now counts) ⌝ }
+    ensures { λ r. ⌜ Pushed 12 cols (now (counts .entry)) (λ g. cond (eqb (k % 2) 1) (push-value o (lits-of lits n) g) g) r (now (counts .exit)) ⌝ }
+{
+    if k % 2 == 1 {
+        return push_value(cols, counts, lits, n, o);
+    }
+    cols
+}
+
+// The first n literals by weight, once for each bit of the coefficient.
+pub fn push_scaled(
+    cols: [[Lit; 12]; 32],
+    counts: &mut [u32; 32],
+    lits: [Lit; 12],
+    n: usize,
+    coef: u32,
+) -> [[Lit; 12]; 32]
+    requires { ⌜ (n ≤ 12) × AllLow lits ⌝ }
+    requires { ⌜ Arrays cols (now counts) × Few 2147480000 (now counts) ⌝ }
+    ensures { λ r. ⌜ Pushed 144 cols (now (counts .entry)) (push-scaled 12 coef 0 (lits-of lits n)) r (now (counts .exit)) ⌝ }
+{
+    let mut out = cols;
+    let mut k = coef;
+    let mut o: usize = 0;
+    while o < 12 {
+        let next = push_bit(out, counts, lits, n, o, k);
+        out = next;
+        k = k / 2;
+        o += 1;
+    }
+    out
+}
+
+// No literals yet.
+pub fn no_columns() -> [[Lit; 12]; 32]
+    ensures { λ r. ⌜ Arrays r (replicate 32 0) × Few 0 (replicate 32 0) × Holds r (replicate 32 0) [] ⌝ }
+{
+    let row = [Lit(0); 12];
+    [row; 32]
+}
+
+// The greater of two numbers.
+fn larger(a: usize, b: usize) -> usize
+    ensures { λ r. ⌜ r ≡ max a b ⌝ }
+{
+    if a < b { b } else { a }
+}
+
+// The width after the bit of weight o.
+fn width_bit(w: usize, n: usize, o: usize, k: u32) -> usize
+    requires { ⌜ (w ≤ 32) × (n ≤ 12) × (o ≤ 12) ⌝ }
+    ensures { λ r. ⌜ (r ≡ cond (eqb (k % 2) 1) (max w (o + n)) w) × (r ≤ 32) ⌝ }
+{
+    if k % 2 == 1 {
+        return larger(w, o + n);
+    }
+    w
+}
+
+// How many columns there are after `gather`.
+pub fn width_after(width: usize, n: usize, coef: u32) -> usize
+    requires { ⌜ (width ≤ 32) × (n ≤ 12) ⌝ }
+    ensures { λ r. ⌜ (r ≡ widths 12 coef 0 n width) × (r ≤ 32) ⌝ }
+{
+    let mut w = width;
+    let mut k = coef;
+    let mut o: usize = 0;
+    while o < 12 {
+        w = width_bit(w, n, o, k);
+        k = k / 2;
+        o += 1;
+    }
+    w
+}
+
+// The first n literals negated.
+pub fn negate_all(lits: [Lit; 12], n: usize) -> [Lit; 12]
+    requires { ⌜ (n ≤ 12) × AllSmall lits ⌝ }
+    ensures { λ r. ⌜ (lits-of r n ≡ map neg (lits-of lits n)) × AllLow r ⌝ }
+{
+    let mut out = [Lit(0); 12];
+    let mut i: usize = 0;
+    while i < n {
+        let l = lits[i];
+        out[i] = l.negated();
+        i += 1;
+    }
+    out
+}
