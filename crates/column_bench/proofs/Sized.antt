@@ -30,5 +30,5 @@ sized h n b p q =
       first = lit< tt;
       second = lit< tt;
       result = lit< tt;
-      own = own-low
+      own = own-low;
     }

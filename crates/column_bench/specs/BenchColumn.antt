@@ -19,7 +19,7 @@ bench-column height carries bit =
       carry = record { first = record { 0 = 100 }; count = carries };
       bit = bit;
       next = record { first = record { 0 = 200 }; count = (bit + height + carries) / 2 };
-      result = lit 600
+      result = lit 600;
     }
 
 -- the stores after its clauses
