@@ -1,1 +1,3 @@
 pub mod Bench
+pub mod Outcome
+pub mod Calls

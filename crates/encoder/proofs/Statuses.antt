@@ -1,0 +1,48 @@
+-- What a status says of the checks, and what a call answers by it.
+use mathlib.Core.Path.{_≡_, _∙_, ap, refl, sym}
+use mathlib.Core.Bool.{Bool, _&&_, cond, false, true}
+use mathlib.Core.List.{List}
+use Prim.Native.Nat.{_+_, _≤_, suc, ℕ}
+use lib.Dec.{eqb, leb, ltb}
+use lib.ListN.{getD, length}
+use lib.IntN.{pos, ℤ}
+use native.Mathlib.Omega.{arith}
+use borrow.Author.Tests.{leb-true, ne-eqb}
+use Rattle.encoder_env.specs.declared.EncoderEnv.{EncoderEnv}
+use Rattle.encoder_env.specs.WellFormed.{well-formed}
+use Rattle.encoder_env.proofs.Kept.{kept}
+use Rattle.encoder_env.proofs.Tests.{both}
+use Rattle.encoder.specs.Calls.{clause-checks}
+use Rattle.encoder.specs.declared.Answer.{Answer}
+use Rattle.encoder.specs.Outcome.{Answers, Outcome, refused, settled, status-of}
+
+-- no refusal: this check holds, and those after it
+pub passed : (b : Bool) (rest n : ℕ) → cond b rest (suc n) ≡ 0 → (b ≡ true) × (rest ≡ 0)
+passed true rest n h = (refl, h)
+passed false rest n h = absurd (omega arith)
+
+module _ (r status : ℕ) (s : r ≡ status) (env : EncoderEnv) (lits ends : List ℕ) (ok : Outcome) where
+  pub settled-refused : (r ≡ 0 → ⊥) → settled status env lits ends ok ≡ refused r env lits ends
+  settled-refused h = rw (← s, ne-eqb r 0 h)
+
+  pub settled-accepted : r ≡ 0 → settled status env lits ends ok ≡ ok
+  settled-accepted h = rw (← s, h)
+
+  -- a refusal
+  pub refuses : (a : Answer) → (r ≡ 0 → ⊥) → a ≡ record { status = r; env = env; value = pos 0 } → Answers (settled status env lits ends ok) a lits ends
+  refuses a h e = rw (settled-refused h, e) (record { status = refl; env = refl; value = refl; lits = refl; ends = refl })
+
+  -- an acceptance
+  pub accepts : (a : Answer) (l e : List ℕ) → r ≡ 0 → Answers ok a l e → Answers (settled status env lits ends ok) a l e
+  accepts a l e h k = rw (settled-accepted h) k
+
+-- a clause that may be handed back lies within the literals in use
+pub clause-within : (env : EncoderEnv) (lits : ℕ) (ends : List ℕ) (k : ℕ) → status-of (clause-checks env lits ends k) ≡ 0
+    → (getD ends k 0 ≤ getD ends (k + 1) 0) × (getD ends (k + 1) 0 ≤ env .literals) × (env .literals ≤ lits)
+clause-within env lits ends k h =
+    let begin = getD ends k 0 in
+    let end = getD ends (k + 1) 0 in
+    let w = passed (well-formed env lits (length ends)) _ 0 h in
+    let n = passed (ltb k (env .clauses)) _ 16 (w .1) in
+    let e = both (leb begin end) (leb end (env .literals)) (passed (leb begin end && leb end (env .literals)) 0 0 (n .1) .0) in
+    (leb-true begin end (e .0), leb-true end (env .literals) (e .1), kept env lits (length ends) (w .0) .literals-in)

@@ -1,0 +1,131 @@
+-- What a test that the code has made says of the definition's own test.
+use mathlib.Core.Path.{_≡_, _∙_, ap, refl, sym}
+use mathlib.Core.Bool.{Bool, _&&_, false, false≢true, not, true}
+use Prim.Native.Nat.{_+_, _<_, _≤_, suc, zero, ℕ}
+use native.Mathlib.Numerals.{add-one}
+use native.Mathlib.Omega.{arith}
+use lib.Dec.{eqb, leb, ltb}
+use lib.IntN.{negsuc, pos, ℤ}
+use lib.Signed.{_≤ℤ_, leZ, ltZ}
+use mir.Syntax.{w32}
+use mir.Val.{SFits, ofZ, toZ}
+use mir.ValLaws.{toZ-ofZ}
+use borrow.Author.Tests.{eq-eqb, eqb-false, eqb-true, le-leb, leb-true, le-ltb, lt-leb, lt-ltb, ltb-false, ltb-true, ne-eqb}
+use Rattle.arithmetic.specs.Integers.{down, up}
+use Rattle.arithmetic.specs.Offset.{code, offset-of}
+use Rattle.arithmetic.proofs.Integers.{apart-read, order-read}
+use Rattle.arithmetic.proofs.Offset.{offset-read}
+use Rattle.encoder_env.specs.WellFormed.{all-below, bounds-hold, eqz, lez}
+
+leb-ltb : (a b : ℕ) → leb a b ≡ not (ltb b a)
+leb-ltb a b = go (ltb b a) refl where
+  go : (t : Bool) → ltb b a ≡ t → leb a b ≡ not (ltb b a)
+  go true e = rw (e, lt-leb a b (ltb-true b a e))
+  go false e = rw (e, le-leb a b (ltb-false b a e))
+
+leZ-ltZ : (a b : ℤ) → leZ a b ≡ not (ltZ b a)
+leZ-ltZ (pos a) (pos b) = leb-ltb a b
+leZ-ltZ (pos a) (negsuc b) = refl
+leZ-ltZ (negsuc a) (pos b) = refl
+leZ-ltZ (negsuc a) (negsuc b) = leb-ltb b a
+
+-- the code's test of two i32, of the numbers themselves
+tested : {x y : ℤ} {t : Bool} (R : ℤ → ℤ → Bool) → SFits w32 x → SFits w32 y → R (toZ w32 (ofZ w32 x)) (toZ w32 (ofZ w32 y)) ≡ t → R x y ≡ t
+tested {x} {y} R f g h = sym (ap (λ (z : ℤ). R z (toZ w32 (ofZ w32 y))) (toZ-ofZ w32 x f) ∙ ap (λ (z : ℤ). R x z) (toZ-ofZ w32 y g)) ∙ h
+
+pub le-yes : {x y : ℤ} → SFits w32 x → SFits w32 y → ltZ (toZ w32 (ofZ w32 y)) (toZ w32 (ofZ w32 x)) ≡ false → lez x y ≡ true
+unfolding lez
+le-yes {x} {y} f g h = rw (leZ-ltZ x y, tested ltZ g f h)
+
+pub le-no : {x y : ℤ} → SFits w32 x → SFits w32 y → ltZ (toZ w32 (ofZ w32 y)) (toZ w32 (ofZ w32 x)) ≡ true → lez x y ≡ false
+unfolding lez
+le-no {x} {y} f g h = rw (leZ-ltZ x y, tested ltZ g f h)
+
+eqz-refl : (z : ℤ) → eqz z z ≡ true
+unfolding eqz
+eqz-refl (pos n) = eq-eqb n n refl
+eqz-refl (negsuc n) = eq-eqb n n refl
+
+pub eqz-true : (x y : ℤ) → eqz x y ≡ true → x ≡ y
+unfolding eqz
+eqz-true (pos a) (pos b) h = ap pos (eqb-true a b h)
+eqz-true (pos a) (negsuc b) h = let z : _≡_ {A = Bool} false true = h in cc
+eqz-true (negsuc a) (pos b) h = let z : _≡_ {A = Bool} false true = h in cc
+eqz-true (negsuc a) (negsuc b) h = ap negsuc (eqb-true a b h)
+
+pub eq-yes : {x y : ℤ} → SFits w32 x → SFits w32 y → ofZ w32 x ≡ ofZ w32 y → eqz x y ≡ true
+eq-yes {x} {y} f g h = let e : x ≡ y = sym (toZ-ofZ w32 x f) ∙ ap (toZ w32) h ∙ toZ-ofZ w32 y g in rw e (eqz-refl y)
+
+pub eq-no : (x y : ℤ) → (ofZ w32 x ≡ ofZ w32 y → ⊥) → eqz x y ≡ false
+eq-no x y h = go (eqz x y) refl where
+  go : (t : Bool) → eqz x y ≡ t → t ≡ false
+  go true e = absurd (h (ap (ofZ w32) (eqz-true x y e)))
+  go false e = refl
+
+pub ruleset signed-tests = (le-yes, le-no, eq-yes, eq-no)
+
+pub ruleset tests = (lt-ltb, le-ltb, lt-leb, le-leb, eq-eqb, ne-eqb)
+
+-- A test of every number below a bound, as a loop finds it -----------------------------------------------------------
+
+and-false : (b : Bool) → (b && false) ≡ false
+and-false true = refl
+and-false false = refl
+
+module _ (f : ℕ → Bool) where
+  pub all-more : (n : ℕ) → all-below n f ≡ true → f n ≡ true → all-below (n + 1) f ≡ true
+  unfolding all-below
+  all-more n p q = rw (add-one, p, q)
+
+  pub all-fail : (n i : ℕ) → i < n → f i ≡ false → all-below n f ≡ false
+  unfolding all-below
+  all-fail zero i h e = absurd (omega arith)
+  all-fail (suc n) i h e = go (eqb i n) refl (λ k. all-fail n i k e) where
+    go : (t : Bool) → eqb i n ≡ t → (i < n → all-below n f ≡ false) → (all-below n f && f n) ≡ false
+    go true k r = let p : f n ≡ false = ap f (sym (eqb-true i n k)) ∙ e in rw p (and-false (all-below n f))
+    go false k r = let m = eqb-false i n k in rw (r (omega arith))
+
+-- Bounds of a setting ------------------------------------------------------------------------------------------------
+
+lez-read : (x y : ℤ) → lez x y ≡ true → up x + down y ≤ up y + down x
+unfolding lez
+lez-read (pos a) (pos b) h = omega (arith, leb-true a b h)
+lez-read (pos a) (negsuc b) h = absurd (false≢true h)
+lez-read (negsuc a) (pos b) h = omega arith
+lez-read (negsuc a) (negsuc b) h = omega (arith, leb-true b a h)
+
+-- what `code` asks, of the offset and high
+pub record Coded (offset high : ℤ) : Type 0 where
+  pub above : offset ≤ℤ high
+  pub high-small : up high < 1073741824
+  pub offset-small : down offset < 1073741824
+
+pub coded : (low high : ℤ) → lez (negsuc 4094) low ≡ true → lez low high ≡ true → lez high (pos 4095) ≡ true → Coded (offset-of low) high
+coded low high a b c =
+    let p = lez-read (negsuc 4094) low a in
+    let q = lez-read low high b in
+    let r = lez-read high (pos 4095) c in
+    let o = offset-read low in
+    record {
+      above = order-read (offset-of low) high .1 (omega (arith, p, q, r, o, apart-read low, apart-read high));
+      high-small = omega (arith, p, q, r, apart-read high);
+      offset-small = omega (arith, p, o, apart-read low);
+    }
+
+pub both : (a b : Bool) → (a && b) ≡ true → (a ≡ true) × (b ≡ true)
+both true b h = (refl, h)
+both false b h = absurd (false≢true h)
+
+pub bounds-coded : (low high : ℤ) → bounds-hold low high ≡ true → Coded (offset-of low) high
+unfolding bounds-hold
+bounds-coded low high h =
+    let p = both (lez (negsuc 4094) low && lez low high && lez high (pos 4095)) (leb (code (offset-of low) high) 4095) h in
+    let q = both (lez (negsuc 4094) low && lez low high) (lez high (pos 4095)) (p .0) in
+    let r = both (lez (negsuc 4094) low) (lez low high) (q .0) in
+    coded low high (r .0) (r .1) (q .1)
+
+pub both-l : (a b : Bool) → (a && b) ≡ true → a ≡ true
+both-l a b h = both a b h .0
+
+pub both-r : (a b : Bool) → (a && b) ≡ true → b ≡ true
+both-r a b h = both a b h .1
