@@ -7,11 +7,12 @@ use native.Mathlib.Numerals.{add-one}
 use native.Mathlib.Omega.{arith}
 use lib.ListN.{length, take, getD, set, length-append, length-map}
 use lib.Seq.{sets, take-suc, length-take-le}
+use Rattle.sat.specs.Size.{entries}
 use Rattle.clause_set.specs.declared.Counts.{Counts}
 use Rattle.sat.specs.declared.Lit.{Lit}
 use Rattle.clause_set.specs.declared.Clause.{Clause}
 use Rattle.clause_set.specs.Clause.{clause-lits, num}
-use Rattle.clause_set.specs.Stores.{Stores, stores, after, add-clause, add-clauses, total, Fits}
+use Rattle.clause_set.specs.Stores.{Stores, stores, after, add-clause, add-clauses, Fits}
 
 pub sets-append : (a l : List ℕ) (i : ℕ) (b : List ℕ) → sets l i (a ++ b) ≡ sets (sets l i a) (i + length a) b
 sets-append [] l i b = rw add-zero
@@ -40,11 +41,11 @@ pub add-append : (b : ℕ) (cs ds : List (List ℕ)) (s : Stores) → add-clause
 add-append b [] ds s = refl
 add-append b (c ∷ cs) ds s = add-append b cs ds (add-clause b c s)
 
-pub total-append : (cs ds : List (List ℕ)) → total (cs ++ ds) ≡ total cs + total ds
-total-append [] ds = omega arith
-total-append (c ∷ cs) ds = omega (arith, total-append cs ds)
+pub entries-append : (cs ds : List (List ℕ)) → entries (cs ++ ds) ≡ entries cs + entries ds
+entries-append [] ds = omega arith
+entries-append (c ∷ cs) ds = omega (arith, entries-append cs ds)
 
-pub used-after : (b : ℕ) (cs : List (List ℕ)) (s : Stores) → add-clauses b cs s .used ≡ s .used + total cs
+pub used-after : (b : ℕ) (cs : List (List ℕ)) (s : Stores) → add-clauses b cs s .used ≡ s .used + entries cs
 unfolding add-clause
 used-after b [] s = omega arith
 used-after b (c ∷ cs) s = omega (arith, used-after b cs (add-clause b c s))
@@ -75,7 +76,7 @@ going-start cs f = record { same = refl; fits = f; lits-long = refl; ends-long =
 module _ {b : ℕ} {d₀ e₀ d e : List ℕ} {a₀ a : Counts} {all now : List (List ℕ)} (cs rest : List (List ℕ)) (split : now ≡ cs ++ rest) (g : Going b d₀ e₀ a₀ all d e a now) where
   pub going-fits : Fits b a cs
   going-fits =
-      let t : total now ≡ total cs + total rest = ap total split ∙ total-append cs rest in
+      let t : entries now ≡ entries cs + entries rest = ap entries split ∙ entries-append cs rest in
       let l : length now ≡ length cs + length rest = ap length split ∙ length-append cs rest in
       let f = g .fits in
       record { lits = omega arith; clauses = omega arith }
@@ -83,10 +84,10 @@ module _ {b : ℕ} {d₀ e₀ d e : List ℕ} {a₀ a : Counts} {all now : List 
   pub going-turn : {d₁ e₁ : List ℕ} (a₁ : Counts) → length d₁ ≡ length d → length e₁ ≡ length e
       → after d₁ e₁ a₁ ≡ add-clauses b cs (after d e a) → Going b d₀ e₀ a₀ all d₁ e₁ a₁ rest
   going-turn {d₁} {e₁} a₁ p q w =
-      let t : total now ≡ total cs + total rest = ap total split ∙ total-append cs rest in
+      let t : entries now ≡ entries cs + entries rest = ap entries split ∙ entries-append cs rest in
       let l : length now ≡ length cs + length rest = ap length split ∙ length-append cs rest in
       let f = g .fits in
-      let u : a₁ .lits ≡ a .lits + total cs = ap (λ (s : Stores). s .used) w ∙ used-after b cs (after d e a) in
+      let u : a₁ .lits ≡ a .lits + entries cs = ap (λ (s : Stores). s .used) w ∙ used-after b cs (after d e a) in
       let v : a₁ .clauses ≡ a .clauses + length cs = ap (λ (s : Stores). s .count) w ∙ count-after b cs (after d e a) in
       record {
         same = g .same ∙ ap (λ (xs : List (List ℕ)). add-clauses b xs (after d e a)) split ∙ add-append b cs rest (after d e a) ∙ ap (add-clauses b rest) (sym w);

@@ -9,8 +9,9 @@ use mathlib.Core.Path.{_∙_, _≡_, ap, ap₂, refl, sym}
 use native.Mathlib.Numerals.{add-one}
 use native.Mathlib.Omega.{arith}
 use borrow.Author.Tests.{eqb-false, eqb-true}
+use Rattle.sat.specs.Size.{entries}
 use Rattle.sat.specs.Clause.{Clauses}
-use Rattle.clause_set.specs.Stores.{Sound, Stores, add-clause, add-clauses, clause-at, clauses-from, clauses-of, part, total}
+use Rattle.clause_set.specs.Stores.{Sound, Stores, add-clause, add-clauses, clause-at, clauses-from, clauses-of, part}
 
 -- a store at or past the end of a part leaves the part
 part-set : (f t i a : ℕ) (l : List ℕ) → f ≤ i → t ≤ i → part f t (set l i a) ≡ part f t l
@@ -88,7 +89,7 @@ module _ (s : Stores) (o : Sound s) (c : List ℕ) (p : s .used + length c ≤ l
           go true e = let d = eqb-true k (s .count + 1) e in rw (d, new-end) (omega arith)
           go false e = let d = eqb-false k (s .count + 1) e in omega (arith, old-end k (omega arith), o .ends-in k (omega arith))
 
-pub read-back : (cs : Clauses) (s : Stores) → Sound s → s .used + total cs ≤ length (s .lits) → s .count + length cs < length (s .ends)
+pub read-back : (cs : Clauses) (s : Stores) → Sound s → s .used + entries cs ≤ length (s .lits) → s .count + length cs < length (s .ends)
     → (clauses-of (add-clauses 0 cs s) ≡ clauses-of s ++ cs) × Sound (add-clauses 0 cs s)
 unfolding add-clause
 read-back [] s o p q = (sym (append-nil (clauses-of s)), o)

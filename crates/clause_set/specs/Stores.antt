@@ -7,6 +7,7 @@ use mathlib.Core.List.{List, [], _∷_}
 use mathlib.Core.Logic.{_⊎_}
 use mathlib.Core.Path.{_≡_}
 use Rattle.sat.specs.Clause.{Clauses}
+use Rattle.sat.specs.Size.{entries}
 use Rattle.clause_set.specs.declared.Counts.{Counts}
 
 -- literals, clause ends, and how many literals and clauses are in use
@@ -37,14 +38,9 @@ abbrev pub add-clauses : ℕ → Clauses → Stores → Stores
 add-clauses b [] s = s
 add-clauses b (c ∷ cs) s = add-clauses b cs (add-clause b c s)
 
--- how many literal entries clauses take
-abbrev pub total : Clauses → ℕ
-total [] = 0
-total (c ∷ cs) = length c + total cs
-
 -- the counts after the clauses, and the ends, which count from b, are numbers of a u32
 pub record Fits (b : ℕ) (at : Counts) (cs : Clauses) : Type 0 where
-  pub lits : b + (at .lits + total cs) < 2 ^ 32
+  pub lits : b + (at .lits + entries cs) < 2 ^ 32
   pub clauses : at .clauses + length cs + 1 < 2 ^ 32
 
 -- r is n, or the store's end where it does not reach so far

@@ -318,7 +318,16 @@ fn run_ge(nums: &[u32], lits: &mut [u32], ends: &mut [u32]) {
     let above = number(nums, 0) as u64;
     let below = number(nums, 1) as u64;
     let ts = t.terms;
-    let used = mixed::inequality(lits, ends, ts, t.len, above, below, 0, nothing());
+    let used = mixed::encode_linear_ge_mixed_from_info(
+        lits,
+        ends,
+        ts,
+        t.len,
+        above,
+        below,
+        0,
+        nothing(),
+    );
     show(b"ge");
     show_clauses(lits, ends, used);
 }

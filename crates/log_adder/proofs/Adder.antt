@@ -39,17 +39,17 @@ module _ (col : AdderColumn) (carry : List ℕ) (v : ℕ) (o : LitsBelow v (col 
   abbrev n : ℕ
   n = carry-size col carry
 
-  abbrev total : Assignment → ℕ
-  total α = col .constant + count α (col .own) + count α carry
+  abbrev entries : Assignment → ℕ
+  entries α = col .constant + count α (col .own) + count α carry
 
   abbrev clauses : ℕ → List (List ℕ)
   clauses r = column (col .own) carry (col .constant) (fresh n v) r
 
   pub meaning : (α : Assignment) (r : ℕ) → Monotone α carry
-      → So (sat α (clauses r)) ↔ (Monotone α (fresh n v) × (total α ≡ 2 * count α (fresh n v) + bit α r))
+      → So (sat α (clauses r)) ↔ (Monotone α (fresh n v) × (entries α ≡ 2 * count α (fresh n v) + bit α r))
   meaning α r f = column-sat α (col .own) carry (fresh n v) r (col .constant) f (omega (arith, length-fresh n v))
 
-  total-agree : (α β : Assignment) → Agree v α β → total α ≡ total β
+  total-agree : (α β : Assignment) → Agree v α β → entries α ≡ entries β
   total-agree α β g = omega (arith, count-agree v α β g (col .own) o, count-agree v α β g carry k)
 
   column-only : (α β : Assignment) (r : ℕ) → Monotone α carry → Agree v α β → So (sat α (clauses r)) → So (sat β (clauses r))
@@ -66,32 +66,32 @@ module _ (col : AdderColumn) (carry : List ℕ) (v : ℕ) (o : LitsBelow v (col 
   new x i = cond (ltb i n) (ltb i (x / 2)) (eqb (x % 2) 1)
 
   chosen : Assignment → Assignment
-  chosen α = over v (new (total α)) α
+  chosen α = over v (new (entries α)) α
 
   chosen-agree : (α : Assignment) → Agree v α (chosen α)
   unfolding chosen
-  chosen-agree α = over-agree v (new (total α)) α
+  chosen-agree α = over-agree v (new (entries α)) α
 
-  chosen-carry : (α : Assignment) (i : ℕ) → i < n → chosen α (v + i) ≡ ltb i (total α / 2)
+  chosen-carry : (α : Assignment) (i : ℕ) → i < n → chosen α (v + i) ≡ ltb i (entries α / 2)
   unfolding chosen new
-  chosen-carry α i h = over-new v (new (total α)) α i ∙ rw (lt-ltb i n h)
+  chosen-carry α i h = over-new v (new (entries α)) α i ∙ rw (lt-ltb i n h)
 
-  chosen-result : (α : Assignment) → bit (chosen α) (2 * (v + n)) ≡ total α % 2
+  chosen-result : (α : Assignment) → bit (chosen α) (2 * (v + n)) ≡ entries α % 2
   unfolding chosen new
-  chosen-result α = rw (holds-plain, over-new, le-ltb n n (omega arith)) (go (eqb (total α % 2) 1) refl)
+  chosen-result α = rw (holds-plain, over-new, le-ltb n n (omega arith)) (go (eqb (entries α % 2) 1) refl)
     where
-      go : (t : Bool) → eqb (total α % 2) 1 ≡ t → cond t 1 0 ≡ total α % 2
-      go true q = omega (arith, eqb-true (total α % 2) 1 q)
-      go false q = let no-one : ¬ (total α % 2 ≡ 1) = eqb-false (total α % 2) 1 q in omega arith
+      go : (t : Bool) → eqb (entries α % 2) 1 ≡ t → cond t 1 0 ≡ entries α % 2
+      go true q = omega (arith, eqb-true (entries α % 2) 1 q)
+      go false q = let no-one : ¬ (entries α % 2 ≡ 1) = eqb-false (entries α % 2) 1 q in omega arith
 
-  column-one : (α : Assignment) (r : ℕ) → Monotone α carry → bit (chosen α) r ≡ total α % 2 → So (sat (chosen α) (clauses r))
+  column-one : (α : Assignment) (r : ℕ) → Monotone α carry → bit (chosen α) r ≡ entries α % 2 → So (sat (chosen α) (clauses r))
   column-one α r f e =
-      let fill = fresh-lead (chosen α) n v (total α / 2) (omega (arith, count-le α (col .own), count-le α carry)) (chosen-carry α) in
+      let fill = fresh-lead (chosen α) n v (entries α / 2) (omega (arith, count-le α (col .own), count-le α carry)) (chosen-carry α) in
       meaning (chosen α) r (monotone-agree v α (chosen α) (chosen-agree α) carry k f) .1
       (fill .0 ∙ sym (fill .1), omega (arith, total-agree α (chosen α) (chosen-agree α)))
 
   pub column-encodes : (rs : List ℕ) → LitsBelow v rs
-      → Encodes v (result-vars rs (v + n)) (λ α. Monotone α carry) (λ α. First α rs (total α)) (clauses (result rs (v + n)))
+      → Encodes v (result-vars rs (v + n)) (λ α. Monotone α carry) (λ α. First α rs (entries α)) (clauses (result rs (v + n)))
   column-encodes [] b =
       record {
         grows = omega arith;
@@ -147,11 +147,11 @@ module _ (col : AdderColumn) (carry : List ℕ) (v : ℕ) (o : LitsBelow v (col 
         (λ α f m. first α rs m)
         (λ α f h. let a = meaning α (result rs (v + n)) f .0 h in (a .0, link α rs (a .1)))
       where
-        first : (α : Assignment) (rs : List ℕ) → MatchesCode α rs (count α carry + (col .constant + count α (col .own) + 2 * U α)) → First α rs (total α)
+        first : (α : Assignment) (rs : List ℕ) → MatchesCode α rs (count α carry + (col .constant + count α (col .own) + 2 * U α)) → First α rs (entries α)
         first α [] m = tt
         first α (r ∷ rs) m = omega arith
 
-        link : (α : Assignment) (rs : List ℕ) → total α ≡ 2 * count α (fresh n v) + bit α (result rs (v + n))
+        link : (α : Assignment) (rs : List ℕ) → entries α ≡ 2 * count α (fresh n v) + bit α (result rs (v + n))
             → MatchesCode α rs (count α carry + (col .constant + count α (col .own) + 2 * U α)) ↔ MatchesCode α (tail rs) (count α (fresh n v) + U α)
         link α [] e = (λ m. tt, λ m. tt)
         link α (r ∷ rs) e =

@@ -50,13 +50,13 @@ module _ (col : EqColumn) (carry : List ℕ) (v : ℕ) (o : LitsBelow v (col .ow
   abbrev n : ℕ
   n = eq-carry-size col carry
 
-  abbrev total : Assignment → ℕ
-  total α = count α (col .own) + count α carry
+  abbrev entries : Assignment → ℕ
+  entries α = count α (col .own) + count α carry
 
   abbrev clauses : Clauses
   clauses = ordering (fresh n v) ++ eq-column (col .own) carry 0 (fresh n v) (col .target)
 
-  meaning : (α : Assignment) → Monotone α carry → So (sat α clauses) ↔ (Monotone α (fresh n v) × (total α ≡ 2 * count α (fresh n v) + col .target))
+  meaning : (α : Assignment) → Monotone α carry → So (sat α clauses) ↔ (Monotone α (fresh n v) × (entries α ≡ 2 * count α (fresh n v) + col .target))
   meaning α f =
       Iff·trans
       (sat-both α (ordering (fresh n v)) (eq-column (col .own) carry 0 (fresh n v) (col .target))) (
@@ -66,13 +66,13 @@ module _ (col : EqColumn) (carry : List ℕ) (v : ℕ) (o : LitsBelow v (col .ow
         λ h. (ordering-sat α (fresh n v) .1 (h .0), eq-column-sat α (col .own) carry (fresh n v) 0 (col .target) f (h .0) .1 (omega arith)),
       )
 
-  total-agree : (α β : Assignment) → Agree v α β → total α ≡ total β
+  total-agree : (α β : Assignment) → Agree v α β → entries α ≡ entries β
   total-agree α β g = omega (arith, count-agree v α β g (col .own) o, count-agree v α β g carry k)
 
   chosen : Assignment → Assignment
-  chosen α = over v (λ i. ltb i (total α / 2)) α
+  chosen α = over v (λ i. ltb i (entries α / 2)) α
 
-  eq-column-encodes : Encodes v (v + n) (λ α. Monotone α carry) (λ α. total α % 2 ≡ col .target) clauses
+  eq-column-encodes : Encodes v (v + n) (λ α. Monotone α carry) (λ α. entries α % 2 ≡ col .target) clauses
   unfolding chosen
   eq-column-encodes =
       record {
@@ -83,9 +83,9 @@ module _ (col : EqColumn) (carry : List ℕ) (v : ℕ) (o : LitsBelow v (col .ow
             (lits-below-more v _ (col .own) (omega arith) o) (lits-below-more v _ carry (omega arith) k) (fresh-below n v (v + n) (omega arith)));
         sound = λ α f h. let a = meaning α f .0 h in omega arith;
         complete = λ α f e.
-            let g : Agree v α (chosen α) = over-agree v (λ i. ltb i (total α / 2)) α in
-            let fill = fresh-lead (chosen α) n v (total α / 2) (omega (arith, count-le α (col .own), count-le α carry))
-            (λ i h. over-new v (λ i. ltb i (total α / 2)) α i) in (
+            let g : Agree v α (chosen α) = over-agree v (λ i. ltb i (entries α / 2)) α in
+            let fill = fresh-lead (chosen α) n v (entries α / 2) (omega (arith, count-le α (col .own), count-le α carry))
+            (λ i h. over-new v (λ i. ltb i (entries α / 2)) α i) in (
               chosen α,
               g,
               meaning (chosen α) (monotone-agree v α (chosen α) g carry k f) .1

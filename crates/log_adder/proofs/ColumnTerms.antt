@@ -9,6 +9,7 @@ use borrow.Author.Tests.{le-leb}
 use native.Mathlib.Numerals.{add-one}
 use lib.Seq.{take-suc, take-suc-set}
 use lib.ListN.{length, take, getD, set, replicate, length-set, length-append, length-map, length-take}
+use Rattle.sat.specs.Size.{entries}
 use Rattle.sat.specs.declared.Lit.{Lit}
 use Rattle.mixed.specs.declared.LinearInfo.{LinearInfo}
 use Rattle.log_adder.specs.declared.VarRange.{VarRange}
@@ -17,7 +18,6 @@ use Rattle.sat.specs.Lit.{neg}
 use Rattle.mixed.specs.Terms.{Term, flip, singles, term}
 use Rattle.mixed.specs.Enumerate.{bounded}
 use Rattle.mixed.specs.Infos.{info-lit, info-term, thresholds}
-use Rattle.clause_set.specs.Stores.{total}
 use Rattle.sat.proofs.Fresh.{length-fresh}
 use Rattle.mixed.proofs.Flip.{flip-snoc, length-flip}
 use Rattle.mixed.proofs.Bound.{bounded-count, bounded-total, sizes}
@@ -131,13 +131,13 @@ abbrev pub le-clauses : ColumnInfo → List (List ℕ)
 le-clauses c = bounded (map info-term (column-infos c true)) (le-slack c) (c .bit)
 
 module _ (c : ColumnInfo) (z : ColumnSized c) where
-  pub up-total : total (ge-clauses c) ≤ 7864320
+  pub up-total : entries (ge-clauses c) ≤ 7864320
   up-total = rw (ge-terms-are c) (bounded-total _ (ge-slack c) 0 (ge-terms-size c z) (ge-terms-long c z))
 
   pub up-count : length (ge-clauses c) ≤ 524288
   up-count = rw (ge-terms-are c) (bounded-count _ (ge-slack c) 0 (ge-terms-size c z) (ge-terms-long c z))
 
-  pub down-total : total (le-clauses c) ≤ 7864320
+  pub down-total : entries (le-clauses c) ≤ 7864320
   down-total = rw (le-terms-are c) (bounded-total _ (le-slack c) (c .bit) (le-terms-size c z) (le-terms-long c z))
 
   pub down-count : length (le-clauses c) ≤ 524288

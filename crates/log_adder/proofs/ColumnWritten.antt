@@ -5,13 +5,14 @@ use mathlib.Core.List.{List, map}
 use Prim.Native.Nat.{ℕ, _+_, _^_, _≤_, _<_}
 use native.Mathlib.Omega.{arith}
 use lib.ListN.{length, length-append}
+use Rattle.sat.specs.Size.{entries}
 use Rattle.clause_set.specs.declared.Counts.{Counts}
 use Rattle.mixed.specs.declared.LinearInfo.{LinearInfo}
 use Rattle.log_adder.specs.declared.ColumnInfo.{ColumnInfo}
 use Rattle.mixed.specs.Enumerate.{bounded}
 use Rattle.mixed.specs.Infos.{info-term}
-use Rattle.clause_set.specs.Stores.{Fits, Stores, add-clauses, after, stores, total}
-use Rattle.clause_set.proofs.Adding.{add-append, count-after, total-append, used-after}
+use Rattle.clause_set.specs.Stores.{Fits, Stores, add-clauses, after, stores}
+use Rattle.clause_set.proofs.Adding.{add-append, count-after, entries-append, used-after}
 use Rattle.log_adder.specs.ColumnInfo.{ColumnSized, column-clauses, column-infos}
 use Rattle.log_adder.proofs.ColumnTerms.{both, down-count, down-total, ge-clauses, ge-slack, le-clauses, le-slack, up-count, up-total}
 
@@ -29,7 +30,7 @@ module _ (c : ColumnInfo) (z : ColumnSized c) (base : ℕ) (low : base < 2 ^ 31)
 
     pub second-fits : (us : List LinearInfo) → us ≡ column-infos c true → Fits base a₁ (bounded (map info-term us) (le-slack c) (c .bit))
     second-fits us k =
-        let l : a₁ .lits ≡ 0 + total (ge-clauses c) = ap (λ (s : Stores). s .used) first ∙ used-after base (ge-clauses c) start in
+        let l : a₁ .lits ≡ 0 + entries (ge-clauses c) = ap (λ (s : Stores). s .used) first ∙ used-after base (ge-clauses c) start in
         let n : a₁ .clauses ≡ 0 + length (ge-clauses c) = ap (λ (s : Stores). s .count) first ∙ count-after base (ge-clauses c) start in
         rw k (record { lits = omega (arith, up-total c z, down-total c z); clauses = omega (arith, up-count c z, down-count c z) })
 
@@ -42,8 +43,8 @@ module _ (c : ColumnInfo) (z : ColumnSized c) (base : ℕ) (low : base < 2 ^ 31)
         ∙ ap (λ (xs : List (List ℕ)). add-clauses base xs start) (sym (both c z long))
 
 -- how much a column adds
-pub column-total : (c : ColumnInfo) → ColumnSized c → length (c .own) ≡ 12 → total (column-clauses c) ≤ 15728640
-column-total c z long = rw (both c z long) (omega (arith, total-append (ge-clauses c) (le-clauses c), up-total c z, down-total c z))
+pub column-total : (c : ColumnInfo) → ColumnSized c → length (c .own) ≡ 12 → entries (column-clauses c) ≤ 15728640
+column-total c z long = rw (both c z long) (omega (arith, entries-append (ge-clauses c) (le-clauses c), up-total c z, down-total c z))
 
 pub column-count : (c : ColumnInfo) → ColumnSized c → length (c .own) ≡ 12 → length (column-clauses c) ≤ 1048576
 column-count c z long = rw (both c z long) (omega (arith, length-append (ge-clauses c) (le-clauses c), up-count c z, down-count c z))

@@ -8,12 +8,13 @@ use native.Mathlib.Omega.{arith}
 use lib.ListN.{length, take, set, length-set}
 use lib.Seq.{take-suc-set}
 use borrow.Rule.Slice.PartMut.{putMid}
+use Rattle.sat.specs.Size.{entries}
 use Rattle.sat.specs.declared.Lit.{Lit}
 use Rattle.clause_set.specs.declared.Counts.{Counts}
 use Rattle.log_adder.specs.declared.ColumnInfo.{ColumnInfo}
 use Rattle.log_adder.specs.declared.ColumnInput.{ColumnInput}
 use Rattle.log_adder.specs.declared.AdderState.{AdderState}
-use Rattle.clause_set.specs.Stores.{Stores, Within, add-clauses, after, stores, total}
+use Rattle.clause_set.specs.Stores.{Stores, Within, add-clauses, after, stores}
 use Rattle.clause_set.proofs.Adding.{count-after, used-after}
 use Rattle.clause_set.proofs.Tails.{lent-added, tail}
 use Rattle.log_adder.specs.ColumnInfo.{ColumnSized, column-clauses, lit, num}
@@ -47,7 +48,7 @@ module _ (c : ColumnInput) (s : AdderState) (z : InBounds s) (y : ColumnReady c 
       (k : after d₁ e₁ w ≡ add-clauses b (column-clauses (info-at c s l)) (stores d e 0 0)) where
     pub wrote-lits : w .lits ≤ 15728640
     wrote-lits =
-        let n : w .lits ≡ 0 + total (column-clauses (info-at c s l)) = ap (λ (x : Stores). x .used) k ∙ used-after b (column-clauses (info-at c s l)) (stores d e 0 0) in
+        let n : w .lits ≡ 0 + entries (column-clauses (info-at c s l)) = ap (λ (x : Stores). x .used) k ∙ used-after b (column-clauses (info-at c s l)) (stores d e 0 0) in
         omega (arith, column-total (info-at c s l) sized own)
 
     pub wrote-clauses : w .clauses ≤ 1048576

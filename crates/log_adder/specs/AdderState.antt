@@ -5,6 +5,7 @@ use mathlib.Core.Bool.{Bool, true, false, not, cond, _&&_}
 use mathlib.Core.List.{List, [], _∷_, _++_, map}
 use lib.Dec.{leb}
 use lib.ListN.{take, getD, length}
+use Rattle.sat.specs.Size.{entries}
 use Rattle.sat.specs.declared.Lit.{Lit}
 use Rattle.clause_set.specs.declared.Counts.{Counts}
 use Rattle.log_adder.specs.declared.VarRange.{VarRange}
@@ -12,7 +13,7 @@ use Rattle.log_adder.specs.declared.ColumnInfo.{ColumnInfo}
 use Rattle.log_adder.specs.declared.ColumnInput.{ColumnInput}
 use Rattle.log_adder.specs.declared.AdderInput.{AdderInput}
 use Rattle.log_adder.specs.declared.AdderState.{AdderState}
-use Rattle.clause_set.specs.Stores.{Stores, add-clauses, after, total}
+use Rattle.clause_set.specs.Stores.{Stores, add-clauses, after}
 use Rattle.log_adder.specs.Adder.{AdderColumn, adder, extend}
 use Rattle.sat.specs.Encoded.{EncodedBits}
 use Rattle.log_adder.specs.ColumnInfo.{AllLow, column-clauses, lit, num, range-lits}
@@ -135,4 +136,4 @@ pub record AdderCounted (cols : List (List Lit)) (counts : List ℕ) (given : Li
   pub tall : r .tall ≡ not (heights-fit (p .width) 0 counts (p .constant) 0)
   pub done : r .tall ≡ false
       → let sum = adder (input-all cols counts p) [] (given-lits p given) v in
-      (r .used .lits ≡ a .lits + total (sum .clauses)) × (r .used .clauses ≡ a .clauses + length (sum .clauses)) × (state-bits r ≡ sum .bits) × (r .vars ≡ sum .vars)
+      (r .used .lits ≡ a .lits + entries (sum .clauses)) × (r .used .clauses ≡ a .clauses + length (sum .clauses)) × (state-bits r ≡ sum .bits) × (r .vars ≡ sum .vars)

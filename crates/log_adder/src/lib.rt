@@ -99,8 +99,17 @@ pub fn push_column(lits: &mut [u32], ends: &mut [u32], c: ColumnInfo, base: u32)
     let next = c.next;
     let most = c.bit as u64 + c.height as u64 + carry.count as u64;
     let least = 2 * next.count as u64 + 1;
-    let up = mixed::inequality(lits, ends, infos(c, false), n + 3, most, 0, base, none);
-    mixed::inequality(
+    let up = mixed::encode_linear_ge_mixed_from_info(
+        lits,
+        ends,
+        infos(c, false),
+        n + 3,
+        most,
+        0,
+        base,
+        none,
+    );
+    mixed::encode_linear_ge_mixed_from_info(
         lits,
         ends,
         infos(c, true),

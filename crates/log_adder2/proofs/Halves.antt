@@ -6,15 +6,16 @@ use Prim.Native.Nat.{ℕ, _+_, _-_, _*_, _^_, _≤_, _<_}
 use native.Mathlib.Omega.{arith}
 use lib.ListN.{length, take, length-append, length-map, length-take}
 use lib.Seq.{take-take, take-at}
+use Rattle.sat.specs.Size.{entries}
 use Rattle.clause_set.specs.declared.Counts.{Counts}
 use Rattle.mixed.specs.declared.LinearInfo.{LinearInfo}
 use borrow.Rule.Slice.PartMut.{putMid}
 use Rattle.log_adder.specs.declared.ColumnInfo.{ColumnInfo}
 use Rattle.mixed.specs.Enumerate.{bounded}
 use Rattle.mixed.specs.Infos.{info-term}
-use Rattle.clause_set.specs.Stores.{Fits, Stores, Within, add-clauses, after, stores, total}
+use Rattle.clause_set.specs.Stores.{Fits, Stores, Within, add-clauses, after, stores}
 use Rattle.clause_set.proofs.Tails.{lent-added, tail}
-use Rattle.clause_set.proofs.Adding.{add-append, count-after, total-append, used-after}
+use Rattle.clause_set.proofs.Adding.{add-append, count-after, entries-append, used-after}
 use Rattle.mixed.proofs.Bound.{bounded-count, bounded-total, sizes}
 use Rattle.log_adder.specs.ColumnInfo.{ColumnSized, column-infos, lit-info, own-lits, range-info, range-lits}
 use Rattle.sat.proofs.Fresh.{length-fresh}
@@ -76,13 +77,13 @@ module _ (c : ColumnInfo) (z : ColumnSized c) (x y : ℕ) where
   abbrev down : List (List ℕ)
   down = bounded (map info-term (eq-infos c true)) least x
 
-  up-total : total up ≤ 7864320
+  up-total : entries up ≤ 7864320
   up-total = rw (rising-two c) (bounded-total _ most y (ge-terms-size c z) (ge-terms-long c z))
 
   up-count : length up ≤ 524288
   up-count = rw (rising-two c) (bounded-count _ most y (ge-terms-size c z) (ge-terms-long c z))
 
-  down-total : total down ≤ 7864320
+  down-total : entries down ≤ 7864320
   down-total = rw (sinking-two c) (bounded-total _ least x (le-terms-size c z) (le-terms-long c z))
 
   down-count : length down ≤ 524288
@@ -94,8 +95,8 @@ module _ (c : ColumnInfo) (z : ColumnSized c) (x y : ℕ) where
       let h : length (own-lits c) ≡ c .height = rw (length-map, length-take) (omega (arith, z)) in
       rw (h, length-fresh (c .carry .count) (c .carry .first .0), length-fresh (c .next .count) (c .next .first .0), rising-two c, sinking-two c)
 
-  pub eq-column-total : length (c .own) ≡ 12 → total (eq-column-clauses c x y) ≤ 15728640
-  eq-column-total long = rw (both long) (omega (arith, total-append up down, up-total, down-total))
+  pub eq-column-total : length (c .own) ≡ 12 → entries (eq-column-clauses c x y) ≤ 15728640
+  eq-column-total long = rw (both long) (omega (arith, entries-append up down, up-total, down-total))
 
   pub eq-column-length : length (c .own) ≡ 12 → length (eq-column-clauses c x y) ≤ 1048576
   eq-column-length long = rw (both long) (omega (arith, length-append up down, up-count, down-count))
@@ -114,7 +115,7 @@ module _ (c : ColumnInfo) (z : ColumnSized c) (x y : ℕ) where
 
       pub second-fits : (us : List LinearInfo) → us ≡ eq-infos c true → Fits base a₁ (bounded (map info-term us) least x)
       second-fits us k =
-          let l : a₁ .lits ≡ 0 + total up = ap (λ (s : Stores). s .used) first ∙ used-after base up start in
+          let l : a₁ .lits ≡ 0 + entries up = ap (λ (s : Stores). s .used) first ∙ used-after base up start in
           let n : a₁ .clauses ≡ 0 + length up = ap (λ (s : Stores). s .count) first ∙ count-after base up start in
           rw k (record { lits = omega (arith, up-total, down-total); clauses = omega (arith, up-count, down-count) })
 
@@ -132,7 +133,7 @@ module _ (c : ColumnInfo) (z : ColumnSized c) (x y : ℕ) (own : length (c .own)
     (k : after d₁ e₁ w ≡ add-clauses b (eq-column-clauses c x y) (stores d e 0 0)) where
   pub wrote-lits : w .lits ≤ 15728640
   wrote-lits =
-      let n : w .lits ≡ 0 + total (eq-column-clauses c x y) = ap (λ (s : Stores). s .used) k ∙ used-after b (eq-column-clauses c x y) (stores d e 0 0) in
+      let n : w .lits ≡ 0 + entries (eq-column-clauses c x y) = ap (λ (s : Stores). s .used) k ∙ used-after b (eq-column-clauses c x y) (stores d e 0 0) in
       omega (arith, eq-column-total c z x y own)
 
   pub wrote-clauses : w .clauses ≤ 1048576

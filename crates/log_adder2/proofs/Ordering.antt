@@ -6,8 +6,8 @@ use native.Mathlib.Nat.{not-suc-le-zero}
 use native.Mathlib.Numerals.{add-one, sub-one}
 use native.Mathlib.Omega.{arith}
 use lib.ListN.{length}
+use Rattle.sat.specs.Size.{entries}
 use Rattle.sat.specs.Lit.{neg}
-use Rattle.clause_set.specs.Stores.{total}
 use Rattle.sat.specs.Fresh.{fresh}
 use Rattle.log_adder.specs.Adder2.{ordering}
 
@@ -21,7 +21,7 @@ ordering-none zero v h = refl
 ordering-none (suc zero) v h = refl
 ordering-none (suc (suc n)) v h = absurd (omega arith)
 
-pub ordering-size : (n v : ℕ) → (length (ordering (fresh n v)) ≤ n) × (total (ordering (fresh n v)) ≤ 2 * n)
+pub ordering-size : (n v : ℕ) → (length (ordering (fresh n v)) ≤ n) × (entries (ordering (fresh n v)) ≤ 2 * n)
 ordering-size zero v = (omega arith, omega arith)
 ordering-size (suc zero) v = (omega arith, omega arith)
 ordering-size (suc (suc n)) v = let r = ordering-size (suc n) (suc v) in (omega arith, omega arith)

@@ -9,12 +9,13 @@ use native.Mathlib.Omega.{arith}
 use borrow.Author.Tests.{le-leb, lt-leb, leb-true, leb-false}
 use lib.Dec.{leb}
 use lib.ListN.{length, getD}
+use Rattle.sat.specs.Size.{entries}
 use Rattle.clause_set.specs.declared.Counts.{Counts}
 use Rattle.sat.specs.declared.Var.{Var}
 use Rattle.log_adder2.specs.declared.Column.the-variants.{Carry, Dead}
 use Rattle.log_adder2.specs.declared.EqInput.{EqInput}
 use Rattle.log_adder2.specs.declared.EqState.{EqState}
-use Rattle.clause_set.specs.Stores.{Stores, add-clauses, after, total}
+use Rattle.clause_set.specs.Stores.{Stores, add-clauses, after}
 use Rattle.clause_set.proofs.Adding.{add-append, count-after, used-after}
 use Rattle.sat.specs.Fresh.{fresh}
 use Rattle.log_adder.proofs.AdderLoops.{not-both}
@@ -128,7 +129,7 @@ module _ (counts : List ℕ) (last : ℕ) where
         let t : coming s i ≡ carries-then cs (coming (next· u (record { 0 = s .vars }) n) (i + 1)) =
         carries-step counts (last - i) i (s .x) (s .y) (s .carry .count) (s .vars) (omega arith) o
         ∙ (λ r. carries-then (ordering (fresh (sym q r) (s .vars))) (carries-from (j r) (i + 1) counts ((s .x + 1) / 2) (s .y / 2) (sym q r) (s .vars + sym q r))) in
-        let ul : u .lits ≡ s .used .lits + total cs = ap (λ (x : Stores). x .used) w ∙ used-after 0 cs (after d e (s .used)) in
+        let ul : u .lits ≡ s .used .lits + entries cs = ap (λ (x : Stores). x .used) w ∙ used-after 0 cs (after d e (s .used)) in
         let uc : u .clauses ≡ s .used .clauses + length cs = ap (λ (x : Stores). x .count) w ∙ count-after 0 cs (after d e (s .used)) in
         let sz = ordering-size n (s .vars) in
         record {

@@ -6,6 +6,7 @@ use mathlib.Core.List.{List, [], _∷_, _++_, map}
 use mathlib.Core.Option.{Option, none, some}
 use lib.Dec.{leb}
 use lib.ListN.{take, getD, length}
+use Rattle.sat.specs.Size.{entries}
 use Rattle.sat.specs.declared.Lit.{Lit}
 use Rattle.clause_set.specs.declared.Counts.{Counts}
 use Rattle.log_adder.specs.declared.VarRange.{VarRange}
@@ -15,7 +16,7 @@ use Rattle.log_adder2.specs.declared.Column.the-variants.{Carry, Dead}
 use Rattle.log_adder2.specs.declared.EqInput.{EqInput}
 use Rattle.log_adder2.specs.declared.EqState.{EqState}
 use Rattle.sat.specs.Clause.{Clauses}
-use Rattle.clause_set.specs.Stores.{add-clauses, after, total}
+use Rattle.clause_set.specs.Stores.{add-clauses, after}
 use Rattle.log_adder.specs.ColumnInfo.{AllLow, num, own-lits, range-lits}
 use Rattle.sat.specs.Fresh.{fresh}
 use Rattle.log_adder.specs.Adder2.{Adder2Output, EqColumn, LastColumn, adder2, adder2-clauses, eq-column, ordering}
@@ -177,4 +178,4 @@ pub record EqCounted (cols : List (List Lit)) (counts : List ℕ) (g : EqInput) 
   pub tall : r .tall ≡ not (eq-heights-fit (g .width - 1) 0 counts (g .x) (g .y) 0)
   pub done : r .tall ≡ false
       → let out = output-at (g .width - 1) 0 cols counts (g .x) (g .y) no-vars (g .vars) in
-      (r .used .lits ≡ a .lits + total (adder2-clauses out)) × (r .used .clauses ≡ a .clauses + length (adder2-clauses out)) × (r .vars ≡ out .vars)
+      (r .used .lits ≡ a .lits + entries (adder2-clauses out)) × (r .used .clauses ≡ a .clauses + length (adder2-clauses out)) × (r .vars ≡ out .vars)

@@ -97,7 +97,7 @@ fn push_eq_column(
     let b = y as u64;
     let most = a + c.height as u64 + carry.count as u64;
     let least = b + 2 * next.count as u64;
-    let up = mixed::inequality(
+    let up = mixed::encode_linear_ge_mixed_from_info(
         lits,
         ends,
         log_adder::infos(c, false),
@@ -107,7 +107,7 @@ fn push_eq_column(
         base,
         none,
     );
-    mixed::inequality(
+    mixed::encode_linear_ge_mixed_from_info(
         lits,
         ends,
         log_adder::infos(c, true),

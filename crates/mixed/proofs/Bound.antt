@@ -9,10 +9,10 @@ use native.Mathlib.Omega.{arith}
 use lib.Dec.{leb, lit<, lit≤}
 use lib.Pow.{pow-add}
 use lib.ListN.{length, getD, length-append}
+use Rattle.sat.specs.Size.{entries}
 use Rattle.sat.specs.Clause.{Clauses}
 use Rattle.mixed.specs.Terms.{Term}
 use Rattle.mixed.specs.Enumerate.{missed, branch, final, enumerate, bounded}
-use Rattle.clause_set.specs.Stores.{total}
 
 -- the literals of all the terms
 abbrev pub sizes : List Term → ℕ
@@ -71,7 +71,7 @@ clauses-most (t ∷ u ∷ ts) s p =
 abbrev Up : ℕ → List ℕ → Type 0
 Up b c = length c ≤ b
 
-total-most : (b : ℕ) (cs : Clauses) → Every (Up b) cs → total cs ≤ length cs * b
+total-most : (b : ℕ) (cs : Clauses) → Every (Up b) cs → entries cs ≤ length cs * b
 total-most b [] h = omega arith
 total-most b (c ∷ cs) h = rw (suc-mul (length cs) b) (omega (arith, h .0, total-most b cs (h .1)))
 
@@ -104,16 +104,16 @@ module _ (ts : List Term) (a b : ℕ) (k : sizes ts ≤ 19) (n : length ts ≤ 1
   live-count : (s : ℕ) → length (enumerate ts s []) ≤ 524288
   live-count s = le-trans (clauses-most ts s []) (pow-le-pow-right {n = 2} (lit< tt) k)
 
-  live-total : (s : ℕ) → total (enumerate ts s []) ≤ 7864320
+  live-total : (s : ℕ) → entries (enumerate ts s []) ≤ 7864320
   live-total s = le-trans (total-most 15 (enumerate ts s []) (clauses-up 15 ts s [] (omega arith))) (mul-le-mul-right 15 (live-count s))
 
   pub bounded-count : length (bounded ts a b) ≤ 524288
   unfolding bounded
   bounded-count = one-most (leb b a) [] (enumerate ts (a - b) []) 524288 (lit≤ tt) (live-count (a - b))
 
-  pub bounded-total : total (bounded ts a b) ≤ 7864320
+  pub bounded-total : entries (bounded ts a b) ≤ 7864320
   unfolding bounded
   bounded-total = go (leb b a) where
-    go : (t : Bool) → total (cond t (enumerate ts (a - b) []) ([] ∷ [])) ≤ 7864320
+    go : (t : Bool) → entries (cond t (enumerate ts (a - b) []) ([] ∷ [])) ≤ 7864320
     go true = live-total (a - b)
     go false = lit≤ tt

@@ -339,7 +339,7 @@ fn encode_sub_plain(
 }
 
 // The clauses of the inequality whose slack is `above - below`; below 0, one empty clause.
-pub fn inequality(
+pub fn encode_linear_ge_mixed_from_info(
     lits: &mut [u32],
     ends: &mut [u32],
     ts: [LinearInfo; 15],

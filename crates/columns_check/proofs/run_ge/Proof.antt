@@ -31,8 +31,8 @@ cast-below c = search needs
 nothing-requires : tie.Need-nothing-requires
 nothing-requires c κs = search needs
 
-inequality-requires : tie.Need-inequality-requires
-inequality-requires c κs =
+encode-linear-ge-mixed-from-info-requires : tie.Need-encode-linear-ge-mixed-from-info-requires
+encode-linear-ge-mixed-from-info-requires c κs =
     let w = c .before .before .before .before .before .before .before .before .read-terms in
     (w .ensures .small, (w .ensures .len, terms-fit (w .result) _ _ (c .nothing .result) (c .nothing .ensures) (w .ensures)))
 
@@ -67,7 +67,7 @@ run-ge-spec =
     number-requires-2
     cast-below
     nothing-requires
-    inequality-requires
+    encode-linear-ge-mixed-from-info-requires
     slice-aggregate-show-2
     show-requires-2
     show-clauses-requires

@@ -39,24 +39,24 @@ add-least c = search needs
 infos-requires : tie.Need-infos-requires
 infos-requires c κs = search needs
 
-add-inequality : tie.Need-add-inequality
-add-inequality c = search needs
+add-encode-linear-ge-mixed-from-info : tie.Need-add-encode-linear-ge-mixed-from-info
+add-encode-linear-ge-mixed-from-info c = search needs
 
-inequality-requires : tie.Need-inequality-requires
-inequality-requires c κs =
+encode-linear-ge-mixed-from-info-requires : tie.Need-encode-linear-ge-mixed-from-info-requires
+encode-linear-ge-mixed-from-info-requires c κs =
     let s = c .before .before .before .before .before .before .before .before .before .before .before in
     (c .infos .ensures .1, (omega (arith, s .pre .0), first-fits (s .args .c) (s .pre .0) (s .args .x) (s .args .y) (s .args .base) (s .pre .1) (s .args .lits .now) (s .args .ends .now) _ (two-terms (s .args .c) false _ (s .pre .0) (own-long s) (c .infos .ensures .0))))
 
 infos-requires-2 : tie.Need-infos-requires-2
 infos-requires-2 c κs = search needs
 
-add-inequality-2 : tie.Need-add-inequality-2
-add-inequality-2 c = search needs
+add-encode-linear-ge-mixed-from-info-2 : tie.Need-add-encode-linear-ge-mixed-from-info-2
+add-encode-linear-ge-mixed-from-info-2 c = search needs
 
-inequality-requires-2 : tie.Need-inequality-requires-2
-inequality-requires-2 c κs =
+encode-linear-ge-mixed-from-info-requires-2 : tie.Need-encode-linear-ge-mixed-from-info-requires-2
+encode-linear-ge-mixed-from-info-requires-2 c κs =
     let s = c .before .before .before .before .before .before .before .before .before .before .before .before .before .before .before .before .before .before .before in
-    let i = c .before .before .before .before .before .before .before .inequality in (
+    let i = c .before .before .before .before .before .before .before .encode-linear-ge-mixed-from-info in (
       c .infos2 .ensures .1,
       (
         omega (arith, s .pre .0),
@@ -74,8 +74,8 @@ same-length-2 c = search needs
 returns : tie.Need-returns
 returns c =
     let s = c .before .before .before .before .before .before .before .before .before .before .before .before .before .before .before .before .before .before .before .before .before .before .before .before in
-    let i = c .before .before .before .before .before .before .before .before .before .before .before .before .inequality in
-    let j = c .before .before .before .before .inequality2 in
+    let i = c .before .before .before .before .before .before .before .before .before .before .before .before .encode-linear-ge-mixed-from-info in
+    let j = c .before .before .before .before .encode-linear-ge-mixed-from-info2 in
     second (s .args .c) (s .pre .0) (s .args .x) (s .args .y) (s .args .base) (s .pre .1) (s .args .lits .now) (s .args .ends .now) _ _ (i .result) _ (two-terms (s .args .c) false _ (s .pre .0) (own-long s) (c .before .before .before .before .before .before .before .before .before .before .before .before .before .infos .ensures .0)) (i .ensures)
     _ _ (j .result) _ (two-terms (s .args .c) true _ (s .pre .0) (own-long s) (c .before .before .before .before .before .infos2 .ensures .0)) (own-long s) (j .ensures)
 
@@ -92,11 +92,11 @@ push-eq-column-spec =
     mul-least
     add-least
     infos-requires
-    add-inequality
-    inequality-requires
+    add-encode-linear-ge-mixed-from-info
+    encode-linear-ge-mixed-from-info-requires
     infos-requires-2
-    add-inequality-2
-    inequality-requires-2
+    add-encode-linear-ge-mixed-from-info-2
+    encode-linear-ge-mixed-from-info-requires-2
     same-length
     same-length-2
     returns)

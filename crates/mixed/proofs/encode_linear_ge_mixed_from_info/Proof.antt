@@ -1,4 +1,4 @@
--- `mixed::inequality` meets its contract, by the table or by the plain recursion.
+-- `mixed::encode_linear_ge_mixed_from_info` meets its contract, by the table or by the plain recursion.
 use mathlib.Core.List.{List, [], _∷_, map}
 use mathlib.Core.Path.{_≡_, ap, refl, sym, _∙_}
 use Prim.Native.Nat.{_-_, ℕ}
@@ -9,8 +9,8 @@ use Rattle.mixed.specs.Infos.{info-term, infos-left}
 use Rattle.mixed.proofs.Infos.{bounded-dead, bounded-live}
 use Rattle.mixed.specs.Table.{walk}
 use borrow.Author.Needs.{needs}
-use Rattle.mixed.proofs.inequality.Statement.{statement}
-use Rattle.mixed.proofs.inequality.Tie as tie
+use Rattle.mixed.proofs.encode_linear_ge_mixed_from_info.Statement.{statement}
+use Rattle.mixed.proofs.encode_linear_ge_mixed_from_info.Tie as tie
 
 -- the one empty clause
 dead : (c : tie.After-empty)
@@ -91,8 +91,8 @@ same-length-6 c = search needs
 returns-3 : tie.Need-returns-3
 returns-3 c = rw (live (c .before .before .before .before .before)) (c .before .before .before .before .encode-sub-plain .ensures)
 
-pub inequality-spec : {M : Type 1} → statement M
-inequality-spec =
+pub encode-linear-ge-mixed-from-info-spec : {M : Type 1} → statement M
+encode-linear-ge-mixed-from-info-spec =
     tie.close
     (tie.spec
     empty-requires
