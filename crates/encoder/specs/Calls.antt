@@ -1,14 +1,20 @@
 -- The outcome of each call on every input (document 01: operation by operation).
-use Prim.Native.Nat.{_+_, ℕ}
-use lib.Dec.{leb, ltb}
-use lib.IntN.{pos}
+use Prim.Native.Nat.{_*_, _+_, _-_, ℕ}
+use lib.Dec.{eqb, leb, ltb}
+use lib.IntN.{negsuc, pos, ℤ}
 use lib.ListN.{getD, length, replicate, set}
-use mathlib.Core.Bool.{_&&_}
-use mathlib.Core.List.{List, [], _∷_}
+use lib.Signed.{ltZ}
+use mathlib.Core.Bool.{Bool, _&&_, true}
+use mathlib.Core.List.{List, [], _++_, _∷_}
+use Rattle.arithmetic.specs.Offset.{code, offset-of}
+use Rattle.sat.specs.Size.{entries}
+use Rattle.norm_csp.specs.Domain.{IntVarRepresentation, binary, list, range}
+use Rattle.log_var.specs.EncodeVarLog.{EncodedVar, encode-var-log}
+use Rattle.log_var.specs.Record.{read-bytes, record-of}
 use Rattle.log_var.specs.declared.LogEncoding.{LogEncoding}
-use Rattle.clause_set.specs.Stores.{clause-at}
+use Rattle.clause_set.specs.Stores.{add-clauses, clause-at, stores}
 use Rattle.encoder_env.specs.declared.EncoderEnv.{EncoderEnv}
-use Rattle.encoder_env.specs.WellFormed.{no-lit, well-formed}
+use Rattle.encoder_env.specs.WellFormed.{bounds-hold, encoding-at, lez, no-lit, well-formed}
 use Rattle.encoder.specs.Outcome.{Check, Outcome, check, refused, settled, status-of}
 
 -- Open ---------------------------------------------------------------------------------------------------------------
@@ -46,3 +52,85 @@ abbrev pub clause-outcome : EncoderEnv → List ℕ → List ℕ → ℕ → Out
 clause-outcome env lits ends k =
     settled (status-of (clause-checks env (length lits) ends k)) env lits ends
     (record { status = 0; env = env; value = pos 0; part = clause-at lits ends k; lits = lits; ends = ends })
+
+-- Settings -----------------------------------------------------------------------------------------------------------
+
+abbrev pub in-range : ℤ → Bool
+in-range z = lez (negsuc 4094) z && lez z (pos 4095)
+
+abbrev pub all-in-range : List ℤ → Bool
+all-in-range [] = true
+all-in-range (k ∷ ks) = in-range k && all-in-range ks
+
+-- strictly rising
+abbrev pub rising : List ℤ → Bool
+rising [] = true
+rising (k ∷ []) = true
+rising (k ∷ m ∷ ks) = ltZ k m && rising (m ∷ ks)
+
+-- high − offset at most 4,095
+abbrev pub code-fits : ℤ → ℤ → Bool
+code-fits low high = leb (code (offset-of low) high) 4095
+
+-- the checks of a setting call's own arguments
+abbrev pub var-checks : ℕ → IntVarRepresentation → List Check
+var-checks switches (range low high) = check (bounds-hold low high) 3 ∷ []
+var-checks switches (list ks) =
+    check (leb 1 (length ks) && leb (length ks) 64) 4
+    ∷ check (all-in-range ks) 3
+    ∷ check (rising ks) 4
+    ∷ check (code-fits (getD ks 0 (pos 0)) (getD ks (length ks - 1) (pos 0))) 3
+    ∷ []
+var-checks switches (binary c f t) =
+    check (ltb c (2 * switches)) 6 ∷ check (in-range f && in-range t) 3 ∷ check (ltZ f t) 5 ∷ check (code-fits f t) 3 ∷ []
+
+-- all checks but those of space; 7 table full
+abbrev pub setting-checks : EncoderEnv → ℕ → ℕ → IntVarRepresentation → List Check
+setting-checks env lits ends repr =
+    check (well-formed env lits ends) 1 ∷ (var-checks (env .switches) repr ++ (check (ltb (env .count) 32) 7 ∷ []))
+
+-- of every call that adds, where the counts after it are these: 14 variables would pass 65,535; 15 the clauses don't fit the entries left
+abbrev pub space-checks : ℕ → ℕ → ℕ → ℕ → ℕ → List Check
+space-checks vars literals clauses lits ends =
+    check (leb vars 65535) 14 ∷ check (leb literals lits && leb (clauses + 1) ends) 15 ∷ []
+
+-- the job with the new record behind those in use
+abbrev pub with-encoding : EncoderEnv → EncodedVar → EncoderEnv
+with-encoding env out =
+    record {
+      switches = env .switches;
+      variables = out .vars;
+      clauses = env .clauses + length (out .clauses);
+      literals = env .literals + entries (out .clauses);
+      count = env .count + 1;
+      encodings = set (env .encodings) (env .count) (record-of (out .encoding));
+    }
+
+-- a range, a list or two values: the checks, then space, then the clauses of `encode-var-log` behind those in use
+abbrev pub setting-outcome : EncoderEnv → List ℕ → List ℕ → IntVarRepresentation → Outcome
+setting-outcome env lits ends repr =
+    let out = encode-var-log repr (env .variables) in
+    let after = add-clauses 0 (out .clauses) (stores lits ends (env .literals) (env .clauses)) in
+    settled (status-of (setting-checks env (length lits) (length ends) repr)) env lits ends
+    (settled (status-of (space-checks (out .vars) (env .literals + entries (out .clauses)) (env .clauses + length (out .clauses)) (length lits) (length ends))) env lits ends
+    (record { status = 0; env = with-encoding env out; value = pos 0; part = []; lits = after .lits; ends = after .ends }))
+
+-- Read ---------------------------------------------------------------------------------------------------------------
+
+-- no byte other than 0 and 1
+abbrev pub all-bits : List ℕ → Bool
+all-bits [] = true
+all-bits (b ∷ bs) = leb b 1 && all-bits bs
+
+-- 8 a setting unknown; 16 the assignment's length is not the variable count, or a byte other than 0 and 1
+abbrev pub read-checks : EncoderEnv → ℕ → ℕ → ℕ → List ℕ → List Check
+read-checks env lits ends x assignment =
+    check (well-formed env lits ends) 1
+    ∷ check (ltb x (env .count)) 8
+    ∷ check (eqb (length assignment) (env .variables) && all-bits assignment) 16
+    ∷ []
+
+abbrev pub read-outcome : EncoderEnv → List ℕ → List ℕ → ℕ → List ℕ → Outcome
+read-outcome env lits ends x assignment =
+    settled (status-of (read-checks env (length lits) (length ends) x assignment)) env lits ends
+    (record { status = 0; env = env; value = read-bytes assignment (encoding-at env x); part = []; lits = lits; ends = ends })

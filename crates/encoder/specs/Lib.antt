@@ -1,3 +1,4 @@
 pub mod Bench
 pub mod Outcome
 pub mod Calls
+pub mod Sizes

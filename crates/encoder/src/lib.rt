@@ -1,12 +1,19 @@
 // The public calls, after encoder/mod.rs. None has a `requires`: what does not fit is refused by a number.
 ghost use mathlib.Core.Path.{_≡_};
 ghost use lib.IntN.{pos};
-ghost use lib.ListN.{getD};
+ghost use lib.ListN.{getD, set};
+ghost use Prim.Native.Nat.{_+_, _^_, _<_};
+ghost use Rattle.norm_csp.specs.Domain.{range};
+ghost use Rattle.log_var.specs.Calls.{Ready};
 ghost use Rattle.encoder.specs.Outcome.{Answers, status-of};
-ghost use Rattle.encoder.specs.Calls.{clause-checks, clause-outcome, open-checks, open-outcome, opened, spare};
+ghost use Rattle.encoder.specs.Calls.{clause-checks, clause-outcome, open-checks, open-outcome, opened, setting-checks, setting-outcome, space-checks, spare};
+ghost use Rattle.encoder.specs.Sizes.{SizeOf, counts-of, job-after};
+use clause_set::Counts;
 use clause_set::clause_part;
 use encoder_env::EncoderEnv;
+use encoder_env::bounds_hold;
 use encoder_env::well_formed;
+use log_var::EncodedVar;
 use log_var::LogEncoding;
 use sat::Lit;
 
@@ -129,4 +136,110 @@ pub fn clause<'a>(
     let begin = entry(ends, k as usize);
     let end = entry(ends, k as usize + 1);
     clause_part(lits, begin as usize, end as usize)
+}
+
+// The clauses and literals in use.
+fn counts_of(env: EncoderEnv) -> Counts
+    ensures { λ r. ⌜ r ≡ counts-of env ⌝ }
+{
+    Counts {
+        clauses: env.clauses as usize,
+        lits: env.literals as usize,
+    }
+}
+
+// Whether the variables and the stores have room for what a call adds, by the counts after it.
+fn space_status(vars: u32, used: Counts, lits: usize, ends: usize) -> u32
+    ensures { λ r. ⌜ r ≡ status-of (space-checks vars (used .lits) (used .clauses) lits ends) ⌝ }
+{
+    if 65535 < vars {
+        return 14;
+    }
+    if lits < used.lits {
+        return 15;
+    }
+    if ends <= used.clauses {
+        return 15;
+    }
+    0
+}
+
+// The answer where a new setting is accepted.
+fn accepted(env: EncoderEnv, new: EncodedVar) -> Answer
+    requires { ⌜ (env .count < 32) × (new .used .clauses < 2 ^ 32) × (new .used .lits < 2 ^ 32) ⌝ }
+    ensures { λ r. ⌜ r ≡ record { status = 0; env = job-after env new; value = pos 0 } ⌝ }
+{
+    let used = new.used;
+    let e = new.encoding;
+    let at = env.count as usize;
+    let mut encodings = env.encodings;
+    encodings[at] = e;
+    let next = EncoderEnv {
+        switches: env.switches,
+        variables: new.vars,
+        clauses: used.clauses as u32,
+        literals: used.lits as u32,
+        count: env.count + 1,
+        encodings,
+    };
+    Answer {
+        status: 0,
+        env: next,
+        value: 0,
+    }
+}
+
+// The checks of a range, but for space.
+fn range_status(env: EncoderEnv, lits: usize, ends: usize, low: i32, high: i32) -> u32
+    ensures { λ r. ⌜ r ≡ status-of (setting-checks env lits ends (range low high)) ⌝ }
+{
+    if !well_formed(env, lits, ends) {
+        return 1;
+    }
+    if !bounds_hold(low, high) {
+        return 3;
+    }
+    if env.count >= 32 {
+        return 7;
+    }
+    0
+}
+
+// What a range takes: nothing is lent, so nothing is written.
+fn range_size(
+    lits: &mut [u32],
+    ends: &mut [u32],
+    low: i32,
+    high: i32,
+    vars: u32,
+    at: Counts,
+) -> EncodedVar
+    requires { ⌜ Ready (range low high) vars at ⌝ }
+    ensures { λ r. ⌜ (now (lits .exit) ≡ now (lits .entry)) × (now (ends .exit) ≡ now (ends .entry)) × SizeOf (range low high) vars at r ⌝ }
+{
+    log_var::encode_range(&mut lits[..0], &mut ends[..0], low, high, vars, at)
+}
+
+// A new setting: the whole numbers from `low` to `high`.
+pub fn encode_range(
+    env: EncoderEnv,
+    lits: &mut [u32],
+    ends: &mut [u32],
+    low: i32,
+    high: i32,
+) -> Answer
+    ensures { λ r. ⌜ Answers (setting-outcome env (now (lits .entry)) (now (ends .entry)) (range low high)) r (now (lits .exit)) (now (ends .exit)) ⌝ }
+{
+    let status = range_status(env, lits.len(), ends.len(), low, high);
+    if status != 0 {
+        return refusal(env, status);
+    }
+    let at = counts_of(env);
+    let size = range_size(lits, ends, low, high, env.variables, at);
+    let space = space_status(size.vars, size.used, lits.len(), ends.len());
+    if space != 0 {
+        return refusal(env, space);
+    }
+    let new = log_var::encode_range(lits, ends, low, high, env.variables, at);
+    accepted(env, new)
 }

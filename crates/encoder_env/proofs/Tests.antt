@@ -129,3 +129,21 @@ both-l a b h = both a b h .0
 
 pub both-r : (a b : Bool) → (a && b) ≡ true → b ≡ true
 both-r a b h = both a b h .1
+
+-- what the bounds of a setting say
+pub record Bounds (low high : ℤ) : Type 0 where
+  pub ordered : low ≤ℤ high
+  pub low-max : down low ≤ 4095
+  pub code-max : code (offset-of low) high ≤ 4095
+
+pub bounds-known : (low high : ℤ) → bounds-hold low high ≡ true → Bounds low high
+unfolding bounds-hold
+bounds-known low high h =
+    let p = both (lez (negsuc 4094) low && lez low high && lez high (pos 4095)) (leb (code (offset-of low) high) 4095) h in
+    let q = both (lez (negsuc 4094) low && lez low high) (lez high (pos 4095)) (p .0) in
+    let r = both (lez (negsuc 4094) low) (lez low high) (q .0) in
+    record {
+      ordered = order-read low high .1 (lez-read low high (r .1));
+      low-max = omega (arith, lez-read (negsuc 4094) low (r .0), apart-read low);
+      code-max = leb-true (code (offset-of low) high) 4095 (p .1);
+    }

@@ -3,3 +3,9 @@ pub mod Codes
 pub mod Binary
 pub mod EncodeVarLog
 pub mod Size
+pub mod Steps
+pub mod Bits
+pub mod Bounds
+pub mod Lists
+pub mod Reading
+pub mod Calls

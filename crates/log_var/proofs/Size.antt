@@ -20,7 +20,7 @@ use Rattle.log_var.specs.Domain.{against, at-least, at-most, domain-clau
 use Rattle.log_var.specs.EncodeVarLog.{encode-binary, encode-domain, encode-var-log}
 use Rattle.log_var.specs.Size.{at-least-count, at-most-count, binary-count, binary-size, binary-vars, domain-count, domain-size, missing-codes, var-size}
 
-length-against : (ls : List ℕ) (k : ℕ) → length (against ls k) ≡ length ls
+pub length-against : (ls : List ℕ) (k : ℕ) → length (against ls k) ≡ length ls
 length-against [] k = refl
 length-against (l ∷ ls) k = ap suc (length-against ls (k / 2))
 
@@ -84,7 +84,7 @@ module _ (weigh : ℕ → ℕ) where
       go true false ih = omega (arith, ih v)
       go true true ih = omega (arith, ih (suc v))
 
-encode-domain-size : (low : ℤ) (ks : List ℤ) (high : ℤ) (v : ℕ)
+pub encode-domain-size : (low : ℤ) (ks : List ℤ) (high : ℤ) (v : ℕ)
     → (let out = encode-domain low ks high v in HasSize v (out .vars) (out .clauses) (domain-size low ks high))
 encode-domain-size low ks high v =
     has-size v record { clauses = domain-clauses (fresh bits v) first codes last; vars = v + bits } (λ weigh. domain-count weigh bits first codes last) bits
@@ -106,7 +106,7 @@ encode-domain-size low ks high v =
     bits : ℕ
     bits = bit-length last
 
-encode-binary-size : (c : ℕ) (f t : ℤ) (v : ℕ) → (let out = encode-binary c f t v in HasSize v (out .vars) (out .clauses) (binary-size f t))
+pub encode-binary-size : (c : ℕ) (f t : ℤ) (v : ℕ) → (let out = encode-binary c f t v in HasSize v (out .vars) (out .clauses) (binary-size f t))
 encode-binary-size c f t v =
     let (from, to) : ℕ × ℕ = (code (offset-of f) f, code (offset-of f) t) in
     has-size v _ (λ weigh. binary-count weigh (bit-length to) from to) _ (λ weigh. binary-bits-size weigh (bit-length to) from to c v)

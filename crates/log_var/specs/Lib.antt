@@ -4,3 +4,6 @@ pub mod Binary
 pub mod EncodeVarLog
 pub mod EncodesVar
 pub mod Size
+pub mod Record
+pub mod Calls
+pub mod Parts

@@ -1,0 +1,112 @@
+-- What the leaf functions of a setting call say of its outcome.
+use mathlib.Core.Path.{_≡_, _∙_, ap, refl, sym}
+use mathlib.Core.Bool.{_&&_, true}
+use mathlib.Core.List.{List}
+use Prim.Native.Nat.{_+_, _<_, _≤_, _^_, ℕ}
+use lib.Dec.{leb, ltb}
+use lib.IntN.{pos, ℤ}
+use lib.ListN.{length}
+use native.Mathlib.Omega.{arith}
+use borrow.Author.Tests.{leb-true, ltb-true}
+use Rattle.sat.specs.Size.{entries}
+use Rattle.clause_set.specs.declared.Counts.{Counts}
+use Rattle.clause_set.specs.Stores.{Stores, add-clauses, after}
+use Rattle.clause_set.proofs.Adding.{count-after, used-after}
+use Rattle.norm_csp.specs.Domain.{IntVarRepresentation, range}
+use Rattle.log_var.specs.Calls.{Ready, VarAdded}
+use Rattle.log_var.specs.EncodeVarLog.{encode-var-log}
+use Rattle.log_var.specs.declared.EncodedVar.{EncodedVar}
+use Rattle.encoder_env.specs.declared.EncoderEnv.{EncoderEnv}
+use Rattle.encoder_env.specs.WellFormed.{bounds-hold, well-formed}
+use Rattle.encoder_env.proofs.Kept.{Kept, kept}
+use Rattle.encoder_env.proofs.Tests.{both, bounds-known}
+use Rattle.encoder.specs.declared.Answer.{Answer}
+use Rattle.encoder.specs.Calls.{setting-checks, setting-outcome, space-checks, with-encoding}
+use Rattle.encoder.specs.Outcome.{Answers, status-of}
+use Rattle.encoder.specs.Sizes.{SizeOf, counts-of, job-after}
+use Rattle.encoder.proofs.Statuses.{accepts, passed, refuses}
+
+-- the counts after a setting that was added
+pub sized : (repr : IntVarRepresentation) (vars : ℕ) (at : Counts) (d e d₁ e₁ : List ℕ) (r : EncodedVar)
+    → VarAdded repr vars (after d e at) r (after d₁ e₁ (r .used)) → SizeOf repr vars at r
+sized repr vars at d e d₁ e₁ r w =
+    let cs = encode-var-log repr vars .clauses in
+    record {
+      vars-are = w .vars-are;
+      lits-are = ap (λ (s : Stores). s .used) (w .stores) ∙ used-after 0 cs (after d e at);
+      clauses-are = ap (λ (s : Stores). s .count) (w .stores) ∙ count-after 0 cs (after d e at);
+    }
+
+-- a job with a free record, and arguments that the leaf function takes
+pub record Admitted (env : EncoderEnv) (lits ends : ℕ) (repr : IntVarRepresentation) : Type 0 where
+  pub holds : Kept env lits ends
+  pub free : env .count < 32
+  pub ready : Ready repr (env .variables) (counts-of env)
+
+pub range-admitted : (env : EncoderEnv) (lits ends : ℕ) (low high : ℤ)
+    → status-of (setting-checks env lits ends (range low high)) ≡ 0 → Admitted env lits ends (range low high)
+range-admitted env lits ends low high h =
+    let w = passed (well-formed env lits ends) _ 0 h in
+    let b = passed (bounds-hold low high) _ 2 (w .1) in
+    let n = passed (ltb (env .count) 32) 0 6 (b .1) in
+    let k = kept env lits ends (w .0) in
+    let v = bounds-known low high (b .0) in
+    record {
+      holds = k;
+      free = ltb-true (env .count) 32 (n .0);
+      ready =
+          record {
+            encodable = (v .ordered, omega (arith, v .code-max));
+            low = v .low-max;
+            vars-fit = k .variables-max;
+            lits-fit = omega (arith, k .literals-in, k .lits-max);
+            clauses-fit = omega (arith, k .clauses-in, k .ends-max);
+          };
+    }
+
+module _ (env : EncoderEnv) (lits ends : List ℕ) (repr : IntVarRepresentation) (r : ℕ)
+    (s : r ≡ status-of (setting-checks env (length lits) (length ends) repr)) where
+  -- a check but for space fails
+  pub setting-refused : (a : Answer) → (r ≡ 0 → ⊥) → a ≡ record { status = r; env = env; value = pos 0 } → Answers (setting-outcome env lits ends repr) a lits ends
+  setting-refused a h e = refuses r _ s env lits ends _ a h e
+
+  -- counting left the stores as they were, and gave the sizes
+  module _ (z : r ≡ 0) (size : EncodedVar) (m : SizeOf repr (env .variables) (counts-of env) size) (lits₁ ends₁ : List ℕ) (p : lits₁ ≡ lits) (q : ends₁ ≡ ends)
+      (t : ℕ) (u : t ≡ status-of (space-checks (size .vars) (size .used .lits) (size .used .clauses) (length lits₁) (length ends₁))) where
+    same-space : t ≡ status-of (space-checks (encode-var-log repr (env .variables) .vars) (env .literals + entries (encode-var-log repr (env .variables) .clauses)) (env .clauses + length (encode-var-log repr (env .variables) .clauses)) (length lits) (length ends))
+    same-space = rw (← p, ← q, ← m .vars-are, ← m .lits-are, ← m .clauses-are) u
+
+    -- there is no space
+    pub setting-without-space : (a : Answer) → (t ≡ 0 → ⊥) → a ≡ record { status = t; env = env; value = pos 0 } → Answers (setting-outcome env lits ends repr) a lits₁ ends₁
+    setting-without-space a h e = rw (p, q) (accepts r _ s env lits ends _ a lits ends z (refuses t _ same-space env lits ends _ a h e))
+
+    -- there is space
+    module _ (y : t ≡ 0) (new : EncodedVar) (lits₂ ends₂ : List ℕ) (w : VarAdded repr (env .variables) (after lits₁ ends₁ (counts-of env)) new (after lits₂ ends₂ (new .used))) where
+      job-is : job-after env new ≡ with-encoding env (encode-var-log repr (env .variables))
+      job-is = let n = sized repr (env .variables) (counts-of env) lits₁ ends₁ lits₂ ends₂ new w in rw (n .vars-are, n .lits-are, n .clauses-are, w .encoding)
+
+      stores-are : after lits₂ ends₂ (new .used) ≡ add-clauses 0 (encode-var-log repr (env .variables) .clauses) (after lits ends (counts-of env))
+      stores-are = rw (← p, ← q) (w .stores)
+
+      pub setting-added : (a : Answer) → a ≡ record { status = 0; env = job-after env new; value = pos 0 } → Answers (setting-outcome env lits ends repr) a lits₂ ends₂
+      setting-added a e =
+          accepts r _ s env lits ends _ a lits₂ ends₂ z
+          (accepts t _ same-space env lits ends _ a lits₂ ends₂ y
+          (record {
+            status = ap (λ (x : Answer). x .status) e;
+            env = ap (λ (x : Answer). x .env) e ∙ job-is;
+            value = ap (λ (x : Answer). x .value) e;
+            lits = ap (λ (x : Stores). x .lits) stores-are;
+            ends = ap (λ (x : Stores). x .ends) stores-are;
+          }))
+
+      -- and the counts are numbers of a u32
+      pub counts-fit : Kept env (length lits) (length ends) → (new .used .clauses < 2 ^ 32) × (new .used .lits < 2 ^ 32)
+      counts-fit k =
+          let cs = encode-var-log repr (env .variables) .clauses in
+          let n = sized repr (env .variables) (counts-of env) lits₁ ends₁ lits₂ ends₂ new w in
+          let v = passed (leb (encode-var-log repr (env .variables) .vars) 65535) _ 13 (sym same-space ∙ y) in
+          let b = both (leb (env .literals + entries cs) (length lits)) (leb (env .clauses + length cs + 1) (length ends)) (passed (leb (env .literals + entries cs) (length lits) && leb (env .clauses + length cs + 1) (length ends)) 0 14 (v .1) .0) in (
+            omega (arith, n .clauses-are, leb-true (env .clauses + length cs + 1) (length ends) (b .1), k .ends-max),
+            omega (arith, n .lits-are, leb-true (env .literals + entries cs) (length lits) (b .0), k .lits-max),
+          )

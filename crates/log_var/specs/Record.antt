@@ -1,0 +1,36 @@
+-- The setting record as the code holds it, and the value that bytes read it as.
+use Prim.Native.Nat.{_*_, _+_, _-_, ℕ}
+use lib.IntN.{ℤ}
+use lib.ListN.{length, replicate, take}
+use mathlib.Core.Bool.{cond}
+use mathlib.Core.List.{List, [], _++_, _∷_, map}
+use Rattle.arithmetic.specs.Offset.{value}
+use Rattle.sat.specs.declared.Lit.{Lit}
+use Rattle.clause_set.specs.Bytes.{lit-holds}
+use Rattle.clause_set.specs.Clause.{num}
+use Rattle.log_var.specs.LogEncoding.{LogEncoding}
+use Rattle.log_var.specs.declared.LogEncoding.{LogEncoding as Encoding}
+
+abbrev pub lit : ℕ → Lit
+lit n = record { 0 = n }
+
+-- literals in the twelve places of a record; unused places are 0
+unfoldable pub pad : List ℕ → List Lit
+pad ls = map lit ls ++ replicate (12 - length ls) (lit 0)
+
+-- the record as the code holds it
+abbrev pub record-of : LogEncoding → Encoding
+record-of e = record { lits = pad (e .lits); len = length (e .lits); low = e .low; high = e .high; offset = e .offset }
+
+-- the literals in use
+abbrev pub lits-of : Encoding → List ℕ
+lits-of e = map num (take (e .len) (e .lits))
+
+-- the sum of 2 ^ i over those literals that hold under an assignment of bytes
+abbrev pub code-of-bytes : List ℕ → List ℕ → ℕ
+code-of-bytes bytes [] = 0
+code-of-bytes bytes (l ∷ ls) = cond (lit-holds bytes l) 1 0 + 2 * code-of-bytes bytes ls
+
+-- the value that bytes read as
+abbrev pub read-bytes : List ℕ → Encoding → ℤ
+read-bytes bytes e = value (e .offset) (code-of-bytes bytes (lits-of e))
