@@ -100,10 +100,6 @@ binary-few (suc n) f t = go (Bool·beq (odd f) (odd t)) (binary-few n (f / 2) (t
     go true h = omega arith
     go false h = omega arith
 
-total-entries : (cs : Clauses) → entries cs ≡ entries cs
-total-entries [] = refl
-total-entries (c ∷ cs) = ap (λ n. length c + n) (total-entries cs)
-
 -- The bounds ---------------------------------------------------------------------------------------------------------
 
 pub record EncodesFew (v : ℕ) (out : EncodedVar) : Type 0 where
@@ -121,7 +117,7 @@ domain-encodes-few low ks high v h m =
     let f = domain-few (bit-length (code o high)) (code o low) (map (code o) ks) (code o high) h m in
     record {
       clauses = omega (arith, s .clauses-are, f .count);
-      literals = omega (arith, s .clauses-are, s .literals-are, f .short, total-entries (out .clauses));
+      literals = omega (arith, s .clauses-are, s .literals-are, f .short);
       vars = omega arith;
       bits = omega (arith, length-fresh (bit-length (code o high)) v);
     }
@@ -135,7 +131,7 @@ binary-encodes-few c f t v h =
     let few = binary-few n (code o f) (code o t) in
     record {
       clauses = omega (arith, s .clauses-are);
-      literals = omega (arith, s .clauses-are, s .literals-are, total-entries (out .clauses));
+      literals = omega (arith, s .clauses-are, s .literals-are);
       vars = omega (arith, s .vars-are);
       bits = omega (arith, bits-long n (code o f) (code o t) c v);
     }

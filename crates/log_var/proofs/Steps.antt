@@ -7,11 +7,11 @@ use mathlib.Core.Bool.{Bool, Bool·beq, cond, false, not, true}
 use mathlib.Core.List.{List, [], _++_, _∷_}
 use mathlib.Core.Path.{_∙_, _≡_, ap, ap₂, refl, subst, sym}
 use native.Mathlib.Omega.{arith}
-use Rattle.sat.specs.Size.{entries}
 use Rattle.arithmetic.specs.Bits.{odd}
 use Rattle.sat.specs.Clause.{Clauses}
 use Rattle.sat.specs.Fresh.{fresh}
 use Rattle.sat.specs.Lit.{as-lit, neg}
+use Rattle.sat.specs.Size.{entries}
 use Rattle.sat.proofs.Fresh.{length-fresh}
 use Rattle.clause_set.specs.Stores.{Fits, Stores, add-clauses, after, stores}
 use Rattle.clause_set.specs.declared.Counts.{Counts}

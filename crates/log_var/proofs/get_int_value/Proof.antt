@@ -1,9 +1,10 @@
 -- `log_var::get_int_value` meets its contract.
-use mathlib.Core.Path.{_≡_, ap₂, _∙_}
+use mathlib.Core.Path.{_≡_, ap, ap₂, _∙_}
 use native.Mathlib.Omega.{arith}
 use mir.Syntax.{w32}
 use mir.Val.{ofZ, toZ}
 use mir.ValLaws.{toZ-ofZ}
+use Rattle.arithmetic.specs.Integers.{down, up}
 use Rattle.arithmetic.specs.Offset.{value}
 use Rattle.log_var.proofs.Calls.{small-read}
 use Rattle.log_var.proofs.get_int_value.Statement.{statement}
@@ -18,7 +19,7 @@ read-code-requires c κs = c .before .before .pre .0
 value-requires : tie.Need-value-requires
 value-requires c κs =
     let s = c .before .before .before .before in
-    rw (offset-is s) (omega (arith, c .before .read-code .ensures), omega (arith, s .pre), omega (arith, s .pre))
+    (omega (arith, c .before .read-code .ensures), omega (arith, s .pre, ap up (offset-is s)), omega (arith, s .pre, ap down (offset-is s)))
 
 returns : tie.Need-returns
 returns c =
