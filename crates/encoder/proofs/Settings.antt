@@ -2,26 +2,27 @@
 use mathlib.Core.Path.{_≡_, _∙_, ap, refl, sym}
 use mathlib.Core.Bool.{_&&_, true}
 use mathlib.Core.List.{List}
-use Prim.Native.Nat.{_+_, _<_, _≤_, _^_, ℕ}
+use Prim.Native.Nat.{_*_, _+_, _<_, _^_, ℕ}
 use lib.Dec.{leb, ltb}
-use lib.IntN.{pos, ℤ}
+use lib.IntN.{negsuc, pos, ℤ}
 use lib.ListN.{length}
+use lib.Signed.{ltZ}
 use native.Mathlib.Omega.{arith}
 use borrow.Author.Tests.{leb-true, ltb-true}
 use Rattle.sat.specs.Size.{entries}
 use Rattle.clause_set.specs.declared.Counts.{Counts}
 use Rattle.clause_set.specs.Stores.{Stores, add-clauses, after}
 use Rattle.clause_set.proofs.Adding.{count-after, used-after}
-use Rattle.norm_csp.specs.Domain.{IntVarRepresentation, range}
+use Rattle.norm_csp.specs.Domain.{IntVarRepresentation, binary, range}
 use Rattle.log_var.specs.Calls.{Ready, VarAdded}
 use Rattle.log_var.specs.EncodeVarLog.{encode-var-log}
 use Rattle.log_var.specs.declared.EncodedVar.{EncodedVar}
 use Rattle.encoder_env.specs.declared.EncoderEnv.{EncoderEnv}
-use Rattle.encoder_env.specs.WellFormed.{bounds-hold, well-formed}
+use Rattle.encoder_env.specs.WellFormed.{bounds-hold, lez, well-formed}
 use Rattle.encoder_env.proofs.Kept.{Kept, kept}
-use Rattle.encoder_env.proofs.Tests.{both, bounds-known}
+use Rattle.encoder_env.proofs.Tests.{both, bounds-known, lt-lez}
 use Rattle.encoder.specs.declared.Answer.{Answer}
-use Rattle.encoder.specs.Calls.{setting-checks, setting-outcome, space-checks, with-encoding}
+use Rattle.encoder.specs.Calls.{code-fits, in-range, setting-checks, setting-outcome, space-checks, with-encoding}
 use Rattle.encoder.specs.Outcome.{Answers, status-of}
 use Rattle.encoder.specs.Sizes.{SizeOf, counts-of, job-after}
 use Rattle.encoder.proofs.Statuses.{accepts, passed, refuses}
@@ -57,6 +58,39 @@ range-admitted env lits ends low high h =
       ready =
           record {
             encodable = (v .ordered, omega (arith, v .code-max));
+            low = v .low-max;
+            vars-fit = k .variables-max;
+            lits-fit = omega (arith, k .literals-in, k .lits-max);
+            clauses-fit = omega (arith, k .clauses-in, k .ends-max);
+          };
+    }
+
+-- of values in range and in order, the bounds ask for the code of the higher one
+pub bounds-code : (low high : ℤ) → in-range low ≡ true → in-range high ≡ true → ltZ low high ≡ true → bounds-hold low high ≡ code-fits low high
+unfolding bounds-hold
+bounds-code low high a b c =
+    let p = both (lez (negsuc 4094) low) (lez low (pos 4095)) a in
+    let q = both (lez (negsuc 4094) high) (lez high (pos 4095)) b in
+    rw (p .0, q .1, lt-lez low high c)
+
+pub binary-admitted : (env : EncoderEnv) (lits ends c : ℕ) (f t : ℤ)
+    → status-of (setting-checks env lits ends (binary c f t)) ≡ 0 → Admitted env lits ends (binary c f t)
+binary-admitted env lits ends c f t h =
+    let w = passed (well-formed env lits ends) _ 0 h in
+    let s = passed (ltb c (2 * env .switches)) _ 5 (w .1) in
+    let r = passed (in-range f && in-range t) _ 2 (s .1) in
+    let o = passed (ltZ f t) _ 4 (r .1) in
+    let m = passed (code-fits f t) _ 2 (o .1) in
+    let n = passed (ltb (env .count) 32) 0 6 (m .1) in
+    let i = both (in-range f) (in-range t) (r .0) in
+    let k = kept env lits ends (w .0) in
+    let v = bounds-known f t (bounds-code f t (i .0) (i .1) (o .0) ∙ m .0) in
+    record {
+      holds = k;
+      free = ltb-true (env .count) 32 (n .0);
+      ready =
+          record {
+            encodable = (omega (arith, ltb-true c (2 * env .switches) (s .0), k .switches-in), record { lt = rw (o .0) tt }, omega (arith, v .code-max));
             low = v .low-max;
             vars-fit = k .variables-max;
             lits-fit = omega (arith, k .literals-in, k .lits-max);

@@ -2,17 +2,17 @@
 use mathlib.Core.Path.{_≡_, _∙_, ap, refl, sym}
 use mathlib.Core.Bool.{Bool, _&&_, cond, false, true}
 use mathlib.Core.List.{List}
-use Prim.Native.Nat.{_+_, _≤_, suc, ℕ}
+use Prim.Native.Nat.{_+_, _<_, _≤_, suc, ℕ}
 use lib.Dec.{eqb, leb, ltb}
 use lib.ListN.{getD, length}
 use lib.IntN.{pos, ℤ}
 use native.Mathlib.Omega.{arith}
-use borrow.Author.Tests.{leb-true, ne-eqb}
+use borrow.Author.Tests.{leb-true, ltb-true, ne-eqb}
 use Rattle.encoder_env.specs.declared.EncoderEnv.{EncoderEnv}
 use Rattle.encoder_env.specs.WellFormed.{well-formed}
-use Rattle.encoder_env.proofs.Kept.{kept}
+use Rattle.encoder_env.proofs.Kept.{Kept, kept}
 use Rattle.encoder_env.proofs.Tests.{both}
-use Rattle.encoder.specs.Calls.{clause-checks}
+use Rattle.encoder.specs.Calls.{clause-checks, read-checks}
 use Rattle.encoder.specs.declared.Answer.{Answer}
 use Rattle.encoder.specs.Outcome.{Answers, Outcome, refused, settled, status-of}
 
@@ -46,3 +46,10 @@ clause-within env lits ends k h =
     let n = passed (ltb k (env .clauses)) _ 16 (w .1) in
     let e = both (leb begin end) (leb end (env .literals)) (passed (leb begin end && leb end (env .literals)) 0 0 (n .1) .0) in
     (leb-true begin end (e .0), leb-true end (env .literals) (e .1), kept env lits (length ends) (w .0) .literals-in)
+
+-- a reading that is accepted is of a known setting of a well-formed job
+pub read-known : (env : EncoderEnv) (lits ends x : ℕ) (assignment : List ℕ) → status-of (read-checks env lits ends x assignment) ≡ 0 → Kept env lits ends × (x < env .count)
+read-known env lits ends x assignment h =
+    let w = passed (well-formed env lits ends) _ 0 h in
+    let n = passed (ltb x (env .count)) _ 7 (w .1) in
+    (kept env lits ends (w .0), ltb-true x (env .count) (n .0))

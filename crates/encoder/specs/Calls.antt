@@ -4,7 +4,7 @@ use lib.Dec.{eqb, leb, ltb}
 use lib.IntN.{negsuc, pos, ℤ}
 use lib.ListN.{getD, length, replicate, set}
 use lib.Signed.{ltZ}
-use mathlib.Core.Bool.{Bool, _&&_, true}
+use mathlib.Core.Bool.{Bool, _&&_}
 use mathlib.Core.List.{List, [], _++_, _∷_}
 use Rattle.arithmetic.specs.Offset.{code, offset-of}
 use Rattle.sat.specs.Size.{entries}
@@ -14,7 +14,7 @@ use Rattle.log_var.specs.Record.{read-bytes, record-of}
 use Rattle.log_var.specs.declared.LogEncoding.{LogEncoding}
 use Rattle.clause_set.specs.Stores.{add-clauses, clause-at, stores}
 use Rattle.encoder_env.specs.declared.EncoderEnv.{EncoderEnv}
-use Rattle.encoder_env.specs.WellFormed.{bounds-hold, encoding-at, lez, no-lit, well-formed}
+use Rattle.encoder_env.specs.WellFormed.{all-below, bounds-hold, encoding-at, lez, no-lit, well-formed}
 use Rattle.encoder.specs.Outcome.{Check, Outcome, check, refused, settled, status-of}
 
 -- Open ---------------------------------------------------------------------------------------------------------------
@@ -59,14 +59,11 @@ abbrev pub in-range : ℤ → Bool
 in-range z = lez (negsuc 4094) z && lez z (pos 4095)
 
 abbrev pub all-in-range : List ℤ → Bool
-all-in-range [] = true
-all-in-range (k ∷ ks) = in-range k && all-in-range ks
+all-in-range ks = all-below (length ks) (λ i. in-range (getD ks i (pos 0)))
 
--- strictly rising
+-- each value is below the next
 abbrev pub rising : List ℤ → Bool
-rising [] = true
-rising (k ∷ []) = true
-rising (k ∷ m ∷ ks) = ltZ k m && rising (m ∷ ks)
+rising ks = all-below (length ks - 1) (λ i. ltZ (getD ks i (pos 0)) (getD ks (i + 1) (pos 0)))
 
 -- high − offset at most 4,095
 abbrev pub code-fits : ℤ → ℤ → Bool
@@ -119,8 +116,7 @@ setting-outcome env lits ends repr =
 
 -- no byte other than 0 and 1
 abbrev pub all-bits : List ℕ → Bool
-all-bits [] = true
-all-bits (b ∷ bs) = leb b 1 && all-bits bs
+all-bits bytes = all-below (length bytes) (λ i. leb (getD bytes i 0) 1)
 
 -- 8 a setting unknown; 16 the assignment's length is not the variable count, or a byte other than 0 and 1
 abbrev pub read-checks : EncoderEnv → ℕ → ℕ → ℕ → List ℕ → List Check

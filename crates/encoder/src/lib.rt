@@ -3,10 +3,10 @@ ghost use mathlib.Core.Path.{_≡_};
 ghost use lib.IntN.{pos};
 ghost use lib.ListN.{getD, set};
 ghost use Prim.Native.Nat.{_+_, _^_, _<_};
-ghost use Rattle.norm_csp.specs.Domain.{range};
+ghost use Rattle.norm_csp.specs.Domain.{binary, list, range};
 ghost use Rattle.log_var.specs.Calls.{Ready};
 ghost use Rattle.encoder.specs.Outcome.{Answers, status-of};
-ghost use Rattle.encoder.specs.Calls.{clause-checks, clause-outcome, open-checks, open-outcome, opened, setting-checks, setting-outcome, space-checks, spare};
+ghost use Rattle.encoder.specs.Calls.{all-bits, all-in-range, clause-checks, clause-outcome, in-range, open-checks, open-outcome, opened, read-checks, read-outcome, rising, setting-checks, setting-outcome, space-checks};
 ghost use Rattle.encoder.specs.Sizes.{SizeOf, counts-of, job-after};
 use clause_set::Counts;
 use clause_set::clause_part;
@@ -242,4 +242,142 @@ pub fn encode_range(
     }
     let new = log_var::encode_range(lits, ends, low, high, env.variables, at);
     accepted(env, new)
+}
+
+// Whether a value is within bounds.
+fn in_range(z: i32) -> bool
+    ensures { λ r. ⌜ r ≡ in-range z ⌝ }
+{
+    if z < -4095 {
+        return false;
+    }
+    if 4095 < z {
+        return false;
+    }
+    true
+}
+
+// The checks of two values, but for space.
+fn binary_status(env: EncoderEnv, lits: usize, ends: usize, cond: Lit, f: i32, t: i32) -> u32
+    ensures { λ r. ⌜ r ≡ status-of (setting-checks env lits ends (binary (cond .0) f t)) ⌝ }
+{
+    if !well_formed(env, lits, ends) {
+        return 1;
+    }
+    if cond.0 >= 2 * env.switches {
+        return 6;
+    }
+    if !in_range(f) {
+        return 3;
+    }
+    if !in_range(t) {
+        return 3;
+    }
+    if t <= f {
+        return 5;
+    }
+    if !bounds_hold(f, t) {
+        return 3;
+    }
+    if env.count >= 32 {
+        return 7;
+    }
+    0
+}
+
+// What two values take.
+fn binary_size(
+    lits: &mut [u32],
+    ends: &mut [u32],
+    cond: Lit,
+    f: i32,
+    t: i32,
+    vars: u32,
+    at: Counts,
+) -> EncodedVar
+    requires { ⌜ Ready (binary (cond .0) f t) vars at ⌝ }
+    ensures { λ r. ⌜ (now (lits .exit) ≡ now (lits .entry)) × (now (ends .exit) ≡ now (ends .entry)) × SizeOf (binary (cond .0) f t) vars at r ⌝ }
+{
+    log_var::encode_binary(&mut lits[..0], &mut ends[..0], cond, f, t, vars, at)
+}
+
+// A new setting: t where the switch literal holds, else f.
+pub fn encode_binary(
+    env: EncoderEnv,
+    lits: &mut [u32],
+    ends: &mut [u32],
+    cond: Lit,
+    f: i32,
+    t: i32,
+) -> Answer
+    ensures { λ r. ⌜ Answers (setting-outcome env (now (lits .entry)) (now (ends .entry)) (binary (cond .0) f t)) r (now (lits .exit)) (now (ends .exit)) ⌝ }
+{
+    let status = binary_status(env, lits.len(), ends.len(), cond, f, t);
+    if status != 0 {
+        return refusal(env, status);
+    }
+    let at = counts_of(env);
+    let size = binary_size(lits, ends, cond, f, t, env.variables, at);
+    let space = space_status(size.vars, size.used, lits.len(), ends.len());
+    if space != 0 {
+        return refusal(env, space);
+    }
+    let new = log_var::encode_binary(lits, ends, cond, f, t, env.variables, at);
+    accepted(env, new)
+}
+
+// Whether every byte is 0 or 1.
+fn all_bits(assignment: &[u8]) -> bool
+    ensures { λ r. ⌜ r ≡ all-bits (now (assignment .entry)) ⌝ }
+{
+    let mut i: usize = 0;
+    while i < assignment.len() {
+        if 1 < assignment[i] {
+            return false;
+        }
+        i += 1;
+    }
+    true
+}
+
+// The checks of a reading.
+fn read_status(env: EncoderEnv, lits: usize, ends: usize, x: u32, assignment: &[u8]) -> u32
+    ensures { λ r. ⌜ r ≡ status-of (read-checks env lits ends x (now (assignment .entry))) ⌝ }
+{
+    if !well_formed(env, lits, ends) {
+        return 1;
+    }
+    if x >= env.count {
+        return 8;
+    }
+    if assignment.len() != env.variables as usize {
+        return 16;
+    }
+    if !all_bits(assignment) {
+        return 16;
+    }
+    0
+}
+
+// The value of setting x under an assignment.
+pub fn get_int_value(
+    env: EncoderEnv,
+    lits: &[u32],
+    ends: &[u32],
+    x: u32,
+    assignment: &[u8],
+) -> Answer
+    ensures { λ r. ⌜ Answers (read-outcome env (now (lits .entry)) (now (ends .entry)) x (now (assignment .entry))) r (now (lits .entry)) (now (ends .entry)) ⌝ }
+{
+    let status = read_status(env, lits.len(), ends.len(), x, assignment);
+    if status != 0 {
+        return refusal(env, status);
+    }
+    let e = env.encodings[x as usize];
+    let value = log_var::get_int_value(e, assignment);
+    Answer {
+        status: 0,
+        env,
+        value,
+    }
 }

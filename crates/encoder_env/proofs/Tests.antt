@@ -10,7 +10,7 @@ use lib.Signed.{_≤ℤ_, leZ, ltZ}
 use mir.Syntax.{w32}
 use mir.Val.{SFits, ofZ, toZ}
 use mir.ValLaws.{toZ-ofZ}
-use borrow.Author.Tests.{eq-eqb, eqb-false, eqb-true, le-leb, leb-true, le-ltb, lt-leb, lt-ltb, ltb-false, ltb-true, ne-eqb}
+use borrow.Author.Tests.{eq-eqb, eqb-false, eqb-true, le-leb, leb-true, le-ltb, lt-leb, lt-ltb, ltb-false, ltb-true, ne-eqb, not-false, not-true}
 use Rattle.arithmetic.specs.Integers.{down, up}
 use Rattle.arithmetic.specs.Offset.{code, offset-of}
 use Rattle.arithmetic.proofs.Integers.{apart-read, order-read}
@@ -40,6 +40,20 @@ le-yes {x} {y} f g h = rw (leZ-ltZ x y, tested ltZ g f h)
 pub le-no : {x y : ℤ} → SFits w32 x → SFits w32 y → ltZ (toZ w32 (ofZ w32 y)) (toZ w32 (ofZ w32 x)) ≡ true → lez x y ≡ false
 unfolding lez
 le-no {x} {y} f g h = rw (leZ-ltZ x y, tested ltZ g f h)
+
+pub below-no : {x y : ℤ} → SFits w32 x → SFits w32 y → leZ (toZ w32 (ofZ w32 y)) (toZ w32 (ofZ w32 x)) ≡ true → ltZ x y ≡ false
+below-no {x} {y} f g h = not-true (ltZ x y) (sym (leZ-ltZ y x) ∙ tested leZ g f h)
+
+pub below-yes : {x y : ℤ} → SFits w32 x → SFits w32 y → leZ (toZ w32 (ofZ w32 y)) (toZ w32 (ofZ w32 x)) ≡ false → ltZ x y ≡ true
+below-yes {x} {y} f g h = not-false (ltZ x y) (sym (leZ-ltZ y x) ∙ tested leZ g f h)
+
+-- a number that is below another is not above it
+pub lt-lez : (x y : ℤ) → ltZ x y ≡ true → lez x y ≡ true
+unfolding lez
+lt-lez (pos a) (pos b) h = le-leb a b (omega (arith, ltb-true a b h))
+lt-lez (pos a) (negsuc b) h = absurd (false≢true h)
+lt-lez (negsuc a) (pos b) h = refl
+lt-lez (negsuc a) (negsuc b) h = le-leb b a (omega (arith, ltb-true b a h))
 
 eqz-refl : (z : ℤ) → eqz z z ≡ true
 unfolding eqz
