@@ -1,28 +1,31 @@
 -- What the leaf functions of a setting call say of its outcome.
-use mathlib.Core.Path.{_≡_, _∙_, ap, refl, sym}
-use mathlib.Core.Bool.{_&&_, true}
-use mathlib.Core.List.{List}
-use Prim.Native.Nat.{_*_, _+_, _<_, _^_, ℕ}
+use mathlib.Core.Path.{_≡_, _∙_, ap, sym}
+use mathlib.Core.Bool.{_&&_, false≢true, true}
+use mathlib.Core.List.{List, [], _∷_}
+use Prim.Native.Nat.{_*_, _+_, _-_, _<_, _≤_, _^_, suc, ℕ}
 use lib.Dec.{leb, ltb}
 use lib.IntN.{negsuc, pos, ℤ}
-use lib.ListN.{length}
+use lib.ListN.{getD, length}
 use lib.Signed.{ltZ}
+use native.Mathlib.Numerals.{add-one}
 use native.Mathlib.Omega.{arith}
 use borrow.Author.Tests.{leb-true, ltb-true}
 use Rattle.sat.specs.Size.{entries}
 use Rattle.clause_set.specs.declared.Counts.{Counts}
 use Rattle.clause_set.specs.Stores.{Stores, add-clauses, after}
 use Rattle.clause_set.proofs.Adding.{count-after, used-after}
-use Rattle.norm_csp.specs.Domain.{IntVarRepresentation, binary, range}
+use Rattle.norm_csp.specs.Domain.{IntVarRepresentation, RisingFrom, binary, last-from, list, range}
 use Rattle.log_var.specs.Calls.{Ready, VarAdded}
 use Rattle.log_var.specs.EncodeVarLog.{encode-var-log}
+use Rattle.log_var.proofs.Bounds.{rising-last}
+use Rattle.log_var.proofs.Calls.{last-at}
 use Rattle.log_var.specs.declared.EncodedVar.{EncodedVar}
 use Rattle.encoder_env.specs.declared.EncoderEnv.{EncoderEnv}
 use Rattle.encoder_env.specs.WellFormed.{bounds-hold, lez, well-formed}
-use Rattle.encoder_env.proofs.Kept.{Kept, kept}
-use Rattle.encoder_env.proofs.Tests.{both, bounds-known, lt-lez}
+use Rattle.encoder_env.proofs.Kept.{Kept, all-at, kept}
+use Rattle.encoder_env.proofs.Tests.{both, bounds-known, lt-lez, order-lez}
 use Rattle.encoder.specs.declared.Answer.{Answer}
-use Rattle.encoder.specs.Calls.{code-fits, in-range, setting-checks, setting-outcome, space-checks, with-encoding}
+use Rattle.encoder.specs.Calls.{all-in-range, code-fits, in-range, rising, setting-checks, setting-outcome, space-checks, with-encoding}
 use Rattle.encoder.specs.Outcome.{Answers, status-of}
 use Rattle.encoder.specs.Sizes.{SizeOf, counts-of, job-after}
 use Rattle.encoder.proofs.Statuses.{accepts, passed, refuses}
@@ -66,12 +69,12 @@ range-admitted env lits ends low high h =
     }
 
 -- of values in range and in order, the bounds ask for the code of the higher one
-pub bounds-code : (low high : ℤ) → in-range low ≡ true → in-range high ≡ true → ltZ low high ≡ true → bounds-hold low high ≡ code-fits low high
+pub bounds-code : (low high : ℤ) → in-range low ≡ true → in-range high ≡ true → lez low high ≡ true → bounds-hold low high ≡ code-fits low high
 unfolding bounds-hold
 bounds-code low high a b c =
     let p = both (lez (negsuc 4094) low) (lez low (pos 4095)) a in
     let q = both (lez (negsuc 4094) high) (lez high (pos 4095)) b in
-    rw (p .0, q .1, lt-lez low high c)
+    rw (p .0, q .1, c)
 
 pub binary-admitted : (env : EncoderEnv) (lits ends c : ℕ) (f t : ℤ)
     → status-of (setting-checks env lits ends (binary c f t)) ≡ 0 → Admitted env lits ends (binary c f t)
@@ -84,13 +87,63 @@ binary-admitted env lits ends c f t h =
     let n = passed (ltb (env .count) 32) 0 6 (m .1) in
     let i = both (in-range f) (in-range t) (r .0) in
     let k = kept env lits ends (w .0) in
-    let v = bounds-known f t (bounds-code f t (i .0) (i .1) (o .0) ∙ m .0) in
+    let v = bounds-known f t (bounds-code f t (i .0) (i .1) (lt-lez f t (o .0)) ∙ m .0) in
     record {
       holds = k;
       free = ltb-true (env .count) 32 (n .0);
       ready =
           record {
             encodable = (omega (arith, ltb-true c (2 * env .switches) (s .0), k .switches-in), record { lt = rw (o .0) tt }, omega (arith, v .code-max));
+            low = v .low-max;
+            vars-fit = k .variables-max;
+            lits-fit = omega (arith, k .literals-in, k .lits-max);
+            clauses-fit = omega (arith, k .clauses-in, k .ends-max);
+          };
+    }
+
+-- values that rise by their places rise one after the other
+rises : (k : ℤ) (ks : List ℤ) → ((i : ℕ) → i < length ks → ltZ (getD (k ∷ ks) i (pos 0)) (getD (k ∷ ks) (suc i) (pos 0)) ≡ true) → RisingFrom k ks
+rises k [] h = tt
+rises k (m ∷ ks) h = (record { lt = rw (h 0 (omega arith)) tt }, rises m ks (λ i p. h (suc i) (omega (arith, p))))
+
+rising-known : (k : ℤ) (ks : List ℤ) → rising (k ∷ ks) ≡ true → RisingFrom k ks
+rising-known k ks h =
+    rises k ks
+    (λ i p.
+    rw add-one at (all-at (λ j. ltZ (getD (k ∷ ks) j (pos 0)) (getD (k ∷ ks) (j + 1) (pos 0))) (length (k ∷ ks) - 1) i h (omega (arith, p))))
+
+-- of a list in range and rising, the bounds ask for the code of the last value
+pub list-bounds : (ks : List ℤ) → 1 ≤ length ks → all-in-range ks ≡ true → rising ks ≡ true
+    → bounds-hold (getD ks 0 (pos 0)) (getD ks (length ks - 1) (pos 0)) ≡ code-fits (getD ks 0 (pos 0)) (getD ks (length ks - 1) (pos 0))
+list-bounds [] n a r = absurd (omega (arith, n))
+list-bounds (k ∷ ks) n a r =
+    let in-at : (i : ℕ) → i < length (k ∷ ks) → in-range (getD (k ∷ ks) i (pos 0)) ≡ true = λ i p. all-at (λ j. in-range (getD (k ∷ ks) j (pos 0))) (length (k ∷ ks)) i a p in
+    let e = last-at k ks in
+    bounds-code k (getD (k ∷ ks) (length (k ∷ ks) - 1) (pos 0)) (in-at 0 (omega arith)) (in-at (length (k ∷ ks) - 1) (omega arith))
+    (rw e (order-lez k (last-from k ks) (rising-last k ks (rising-known k ks r))))
+
+pub list-admitted : (env : EncoderEnv) (lits ends : ℕ) (ks : List ℤ)
+    → status-of (setting-checks env lits ends (list ks)) ≡ 0 → Admitted env lits ends (list ks)
+list-admitted env lits ends [] h =
+    let w = passed (well-formed env lits ends) _ 0 h in
+    absurd (false≢true (passed (leb 1 0 && leb 0 64) 0 3 (w .1) .0))
+list-admitted env lits ends (z ∷ zs) h =
+    let ks : List ℤ = z ∷ zs in
+    let w = passed (well-formed env lits ends) _ 0 h in
+    let l = passed (leb 1 (length ks) && leb (length ks) 64) _ 3 (w .1) in
+    let a = passed (all-in-range ks) _ 2 (l .1) in
+    let r = passed (rising ks) _ 3 (a .1) in
+    let m = passed (code-fits (getD ks 0 (pos 0)) (getD ks (length ks - 1) (pos 0))) _ 2 (r .1) in
+    let n = passed (ltb (env .count) 32) 0 6 (m .1) in
+    let k = kept env lits ends (w .0) in
+    let v = bounds-known z (getD ks (length ks - 1) (pos 0)) (list-bounds ks (omega arith) (a .0) (r .0) ∙ m .0) in
+    let e = last-at z zs in
+    record {
+      holds = k;
+      free = ltb-true (env .count) 32 (n .0);
+      ready =
+          record {
+            encodable = (rising-known z zs (r .0), rw (← e) (omega (arith, v .code-max)));
             low = v .low-max;
             vars-fit = k .variables-max;
             lits-fit = omega (arith, k .literals-in, k .lits-max);

@@ -15,7 +15,7 @@ use Rattle.log_var.specs.declared.LogEncoding.{LogEncoding}
 use Rattle.clause_set.specs.Stores.{add-clauses, clause-at, stores}
 use Rattle.encoder_env.specs.declared.EncoderEnv.{EncoderEnv}
 use Rattle.encoder_env.specs.WellFormed.{all-below, bounds-hold, encoding-at, lez, no-lit, well-formed}
-use Rattle.encoder.specs.Outcome.{Check, Outcome, check, refused, settled, status-of}
+use Rattle.encoder.specs.Outcome.{Check, Outcome, check, settled, status-of}
 
 -- Open ---------------------------------------------------------------------------------------------------------------
 

@@ -381,3 +381,97 @@ pub fn get_int_value(
         value,
     }
 }
+
+// Whether every value is within bounds.
+fn all_in_range(values: &[i32]) -> bool
+    ensures { λ r. ⌜ r ≡ all-in-range (now (values .entry)) ⌝ }
+{
+    let mut i: usize = 0;
+    while i < values.len() {
+        let z = values[i];
+        if !in_range(z) {
+            return false;
+        }
+        i += 1;
+    }
+    true
+}
+
+// Whether each value is below the next.
+fn is_rising(values: &[i32]) -> bool
+    ensures { λ r. ⌜ r ≡ rising (now (values .entry)) ⌝ }
+{
+    let mut i: usize = 0;
+    while i + 1 < values.len() {
+        let a = values[i];
+        let b = values[i + 1];
+        if b <= a {
+            return false;
+        }
+        i += 1;
+    }
+    true
+}
+
+// The checks of a list, but for space.
+fn list_status(env: EncoderEnv, lits: usize, ends: usize, values: &[i32]) -> u32
+    ensures { λ r. ⌜ r ≡ status-of (setting-checks env lits ends (list (now (values .entry)))) ⌝ }
+{
+    if !well_formed(env, lits, ends) {
+        return 1;
+    }
+    let n = values.len();
+    if n < 1 {
+        return 4;
+    }
+    if 64 < n {
+        return 4;
+    }
+    if !all_in_range(values) {
+        return 3;
+    }
+    if !is_rising(values) {
+        return 4;
+    }
+    let low = values[0];
+    let high = values[n - 1];
+    if !bounds_hold(low, high) {
+        return 3;
+    }
+    if env.count >= 32 {
+        return 7;
+    }
+    0
+}
+
+// What a list takes.
+fn list_size(
+    lits: &mut [u32],
+    ends: &mut [u32],
+    values: &[i32],
+    vars: u32,
+    at: Counts,
+) -> EncodedVar
+    requires { ⌜ Ready (list (now values)) vars at ⌝ }
+    ensures { λ r. ⌜ (now (lits .exit) ≡ now (lits .entry)) × (now (ends .exit) ≡ now (ends .entry)) × SizeOf (list (now (values .entry))) vars at r ⌝ }
+{
+    log_var::encode_list(&mut lits[..0], &mut ends[..0], values, vars, at)
+}
+
+// A new setting: one of the values.
+pub fn encode_list(env: EncoderEnv, lits: &mut [u32], ends: &mut [u32], values: &[i32]) -> Answer
+    ensures { λ r. ⌜ Answers (setting-outcome env (now (lits .entry)) (now (ends .entry)) (list (now (values .entry)))) r (now (lits .exit)) (now (ends .exit)) ⌝ }
+{
+    let status = list_status(env, lits.len(), ends.len(), values);
+    if status != 0 {
+        return refusal(env, status);
+    }
+    let at = counts_of(env);
+    let size = list_size(lits, ends, values, env.variables, at);
+    let space = space_status(size.vars, size.used, lits.len(), ends.len());
+    if space != 0 {
+        return refusal(env, space);
+    }
+    let new = log_var::encode_list(lits, ends, values, env.variables, at);
+    accepted(env, new)
+}

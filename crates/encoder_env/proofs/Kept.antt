@@ -3,7 +3,7 @@ use mathlib.Core.Path.{_≡_, _∙_, ap, refl, sym}
 use mathlib.Core.Bool.{Bool, cond, false, false≢true, true}
 use Prim.Native.Nat.{_+_, _<_, _≤_, ℕ}
 use native.Mathlib.Omega.{arith}
-use lib.Dec.{eqb, leb}
+use lib.Dec.{eqb}
 use borrow.Author.Tests.{eqb-true, leb-true, lt-ltb}
 use Rattle.arithmetic.specs.Bits.{bit-length}
 use Rattle.arithmetic.specs.Integers.{down, up}
@@ -42,7 +42,7 @@ kept env lits ends h =
     }
 
 -- a test of every number below a bound, at one of them
-all-at : (f : ℕ → Bool) (n i : ℕ) → all-below n f ≡ true → i < n → f i ≡ true
+pub all-at : (f : ℕ → Bool) (n i : ℕ) → all-below n f ≡ true → i < n → f i ≡ true
 all-at f n i h k = go (f i) refl where
   go : (t : Bool) → f i ≡ t → f i ≡ true
   go true e = e

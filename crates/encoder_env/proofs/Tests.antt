@@ -108,6 +108,15 @@ lez-read (pos a) (negsuc b) h = absurd (false≢true h)
 lez-read (negsuc a) (pos b) h = omega arith
 lez-read (negsuc a) (negsuc b) h = omega (arith, leb-true b a h)
 
+pub order-lez : (x y : ℤ) → x ≤ℤ y → lez x y ≡ true
+unfolding lez
+order-lez x y h = go x y (order-read x y .0 h) where
+  go : (x y : ℤ) → up x + down y ≤ up y + down x → leZ x y ≡ true
+  go (pos a) (pos b) k = le-leb a b (omega arith)
+  go (pos a) (negsuc b) k = absurd (omega arith)
+  go (negsuc a) (pos b) k = refl
+  go (negsuc a) (negsuc b) k = le-leb b a (omega arith)
+
 -- what `code` asks, of the offset and high
 pub record Coded (offset high : ℤ) : Type 0 where
   pub above : offset ≤ℤ high

@@ -134,7 +134,7 @@ module _ (c : ℕ) (f t : ℤ) (vars : ℕ) (at : Counts) (ready : Ready (binary
 
 -- A list -------------------------------------------------------------------------------------------------------------
 
-last-at : (k : ℤ) (ks : List ℤ) → getD (k ∷ ks) (length (k ∷ ks) - 1) (pos 0) ≡ last-from k ks
+pub last-at : (k : ℤ) (ks : List ℤ) → getD (k ∷ ks) (length (k ∷ ks) - 1) (pos 0) ≡ last-from k ks
 last-at k ks = let e : length (k ∷ ks) - 1 ≡ length ks = omega arith in ap (λ i. getD (k ∷ ks) i (pos 0)) e ∙ go k ks
   where
     go : (k : ℤ) (ks : List ℤ) → getD (k ∷ ks) (length ks) (pos 0) ≡ last-from k ks

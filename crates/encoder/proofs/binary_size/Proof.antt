@@ -1,6 +1,6 @@
 -- `encoder::binary_size` meets its contract.
 use borrow.Author.Needs.{needs}
-use mathlib.Core.Path.{_≡_, ap}
+use mathlib.Core.Path.{ap}
 use mathlib.Core.List.{List, _++_}
 use Prim.Native.Nat.{ℕ}
 use mir.Syntax.{w32}

@@ -2,7 +2,7 @@
 use borrow.Author.Needs.{needs}
 use borrow.Author.Tests.{le-ltb, lt-ltb, not-false, not-true}
 use mathlib.Core.Path.{_≡_, _∙_, sym}
-use mathlib.Core.Bool.{_&&_, false, true}
+use mathlib.Core.Bool.{true}
 use Prim.Native.Nat.{_*_}
 use native.Mathlib.Omega.{arith}
 use lib.Dec.{ltb}
@@ -11,7 +11,7 @@ use mir.Syntax.{w32}
 use mir.ValLaws.{toZ-ofZ}
 use Rattle.encoder_env.specs.WellFormed.{bounds-hold, well-formed}
 use Rattle.encoder_env.proofs.Kept.{kept}
-use Rattle.encoder_env.proofs.Tests.{below-no, below-yes}
+use Rattle.encoder_env.proofs.Tests.{below-no, below-yes, lt-lez}
 use Rattle.encoder.specs.Calls.{code-fits, in-range}
 use Rattle.encoder.proofs.Settings.{bounds-code}
 use Rattle.encoder.proofs.binary_status.Statement.{statement}
@@ -78,7 +78,7 @@ code-tested : (c : tie.After-bounds-hold) → let a = c .before .before .before 
 code-tested c =
     let s = c .before .before .before .before .before .before .before .before .before .before .before in
     let k : c .bounds-hold .result ≡ bounds-hold (s .args .f) (s .args .t) = c .bounds-hold .ensures ∙ rw (toZ-ofZ w32 (s .args .f) (s .fits .f), toZ-ofZ w32 (s .args .t) (s .fits .t)) in
-    k ∙ bounds-code (s .args .f) (s .args .t) (f-inside (c .before .before .before .before)) (t-inside (c .before .before)) (below (c .before))
+    k ∙ bounds-code (s .args .f) (s .args .t) (f-inside (c .before .before .before .before)) (t-inside (c .before .before)) (lt-lez (s .args .f) (s .args .t) (below (c .before)))
 
 returns-6 : tie.Need-returns-6
 returns-6 c = let k = sym (code-tested (c .before)) ∙ not-true _ (c .if6 .taken) in rw (held (c .before .before .before .before .before .before .before .before .before .before), switch-known (c .before .before .before .before .before .before .before), f-inside (c .before .before .before .before .before), t-inside (c .before .before .before), below (c .before .before), k)

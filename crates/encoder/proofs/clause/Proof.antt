@@ -1,13 +1,11 @@
 -- `encoder::clause` meets its contract.
 use borrow.Author.Needs.{needs}
-use mathlib.Core.Path.{_≡_, _∙_, ap, refl, sym}
-use mathlib.Core.List.{List}
-use Prim.Native.Nat.{ℕ, _+_, _≤_}
+use mathlib.Core.Path.{_∙_, ap, sym}
+use Prim.Native.Nat.{ℕ}
 use native.Mathlib.Omega.{arith}
 use lib.ListN.{getD, length}
 use Rattle.clause_set.specs.Stores.{part}
-use Rattle.encoder.specs.Outcome.{Outcome, status-of}
-use Rattle.encoder.specs.Calls.{clause-checks}
+use Rattle.encoder.specs.Outcome.{Outcome}
 use Rattle.encoder.proofs.Statuses.{clause-within, settled-accepted, settled-refused}
 use Rattle.encoder.proofs.clause.Statement.{statement}
 use Rattle.encoder.proofs.clause.Tie as tie

@@ -2,7 +2,7 @@
 use borrow.Author.Needs.{needs}
 use borrow.Author.Tests.{le-leb, le-ltb, lt-leb, lt-ltb, not-false, not-true}
 use mathlib.Core.Path.{_≡_, _∙_, sym}
-use mathlib.Core.Bool.{false, true}
+use mathlib.Core.Bool.{true}
 use lib.ListN.{length}
 use Rattle.encoder_env.specs.WellFormed.{well-formed}
 use Rattle.encoder.proofs.clause_status.Statement.{statement}

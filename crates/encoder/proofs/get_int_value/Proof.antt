@@ -1,12 +1,12 @@
 -- `encoder::get_int_value` meets its contract.
 use borrow.Author.Needs.{needs}
-use mathlib.Core.Path.{_≡_, _∙_, refl, sym}
-use Prim.Native.Nat.{_<_, _≤_}
+use mathlib.Core.Path.{_∙_, refl, sym}
+use Prim.Native.Nat.{_<_}
 use native.Mathlib.Omega.{arith}
 use lib.ListN.{length}
 use mir.Syntax.{w32}
 use mir.ValLaws.{toZ-ofZ}
-use Rattle.encoder_env.proofs.Kept.{Kept, Readable, in-use}
+use Rattle.encoder_env.proofs.Kept.{Kept, in-use}
 use Rattle.encoder.proofs.Statuses.{accepts, read-known, refuses}
 use Rattle.encoder.proofs.get_int_value.Statement.{statement}
 use Rattle.encoder.proofs.get_int_value.Tie as tie

@@ -1,9 +1,8 @@
 -- `encoder::open` meets its contract.
 use borrow.Author.Needs.{needs}
-use mathlib.Core.Path.{_≡_, _∙_, ap, refl, sym}
+use mathlib.Core.Path.{_∙_, ap, refl}
 use lib.IntN.{pos}
 use Rattle.encoder_env.specs.declared.EncoderEnv.{EncoderEnv}
-use Rattle.encoder.specs.declared.Answer.{Answer}
 use Rattle.encoder.proofs.Statuses.{accepts, refuses}
 use Rattle.encoder.proofs.open.Statement.{statement}
 use Rattle.encoder.proofs.open.Tie as tie

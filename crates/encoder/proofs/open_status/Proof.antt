@@ -3,8 +3,6 @@ use borrow.Author.Needs.{needs}
 use Rattle.encoder_env.proofs.Tests.{tests}
 use Rattle.encoder.proofs.open_status.Statement.{statement}
 use Rattle.encoder.proofs.open_status.Tie as tie
-use Rattle.encoder.proofs.open_status.Reads as reads
-use Rattle.encoder.proofs.open_status.Lts as lts
 
 returns : tie.Need-returns
 returns c = search (tests, needs)

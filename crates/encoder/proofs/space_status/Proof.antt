@@ -1,5 +1,4 @@
 -- `encoder::space_status` meets its contract.
-use borrow.Author.Needs.{needs}
 use borrow.Author.Tests.{le-leb, lt-leb}
 use Prim.Native.Nat.{_+_}
 use native.Mathlib.Omega.{arith}

@@ -4,9 +4,6 @@ use Rattle.encoder_env.specs.WellFormed.{is-spare}
 use borrow.Author.Needs.{needs}
 use Rattle.encoder_env.proofs.is_spare.Statement.{statement}
 use Rattle.encoder_env.proofs.is_spare.Tie as tie
-use Rattle.encoder_env.proofs.is_spare.Reads as reads
-use Rattle.encoder_env.proofs.is_spare.Lts as lts
-use Rattle.encoder_env.proofs.lits_fit.Reads as lits-fit-reads
 
 returns : tie.Need-returns
 unfolding is-spare

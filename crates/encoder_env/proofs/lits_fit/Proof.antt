@@ -1,9 +1,7 @@
 -- `encoder_env::lits_fit` meets its contract.
-use Prim.Native.Nat.{ℕ, suc, _+_, _-_, _*_, _≤_, _<_}
+use Prim.Native.Nat.{ℕ, _-_, _≤_}
 use mathlib.Core.Path.{_≡_, refl, sym, ap, _∙_}
-use mathlib.Core.Bool.{Bool, true, false}
-use lib.ListN.{length, getD}
-use borrow.Author.Tests.{lt-ltb, le-ltb, eq-eqb, ne-eqb}
+use mathlib.Core.Bool.{true}
 use Rattle.encoder_env.specs.WellFormed.{all-below, lit-fits}
 use Rattle.encoder_env.proofs.Tests.{all-more, all-fail, tests}
 use mathlib.Core.Logic.{⊎-elim}
@@ -11,8 +9,6 @@ use native.Mathlib.Omega.{arith}
 use borrow.Author.Needs.{needs}
 use Rattle.encoder_env.proofs.lits_fit.Statement.{statement}
 use Rattle.encoder_env.proofs.lits_fit.Tie as tie
-use Rattle.encoder_env.proofs.lits_fit.Reads as reads
-use Rattle.encoder_env.proofs.lits_fit.Lts as lts
 
 abbrev Inv-loop : tie.InvT-loop
 Inv-loop len variables lits i₀ i = (i ≤ 12) × (all-below i (lit-fits variables len lits) ≡ true)

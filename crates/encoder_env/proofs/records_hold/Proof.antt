@@ -1,19 +1,15 @@
 -- `encoder_env::records_hold` meets its contract.
 use native.Mathlib.Omega.{arith}
 use borrow.Author.Needs.{needs}
-use Prim.Native.Nat.{ℕ, suc, _+_, _-_, _*_, _≤_, _<_}
+use Prim.Native.Nat.{ℕ, _-_, _≤_}
 use mathlib.Core.Path.{_≡_, refl, sym, ap, _∙_}
-use mathlib.Core.Bool.{Bool, true, false}
+use mathlib.Core.Bool.{true, false}
 use mathlib.Core.Logic.{⊎-elim}
 use borrow.Author.Tests.{lt-ltb, le-ltb, not-true, not-false}
 use Rattle.encoder_env.specs.WellFormed.{all-below, record-holds}
-use Rattle.encoder_env.proofs.Tests.{all-more, all-fail, tests}
+use Rattle.encoder_env.proofs.Tests.{all-more, all-fail}
 use Rattle.encoder_env.proofs.records_hold.Statement.{statement}
 use Rattle.encoder_env.proofs.records_hold.Tie as tie
-use Rattle.encoder_env.proofs.records_hold.Reads as reads
-use Rattle.encoder_env.proofs.records_hold.Lts as lts
-use Rattle.encoder_env.proofs.encoding_holds.Reads as encoding-holds-reads
-use Rattle.encoder_env.proofs.is_spare.Reads as is-spare-reads
 
 abbrev Inv-loop : tie.InvT-loop
 Inv-loop env count variables i₀ i = (i ≤ 32) × (all-below i (record-holds env) ≡ true)

@@ -4,9 +4,6 @@ use Rattle.encoder_env.proofs.Tests.{tests}
 use borrow.Author.Needs.{needs}
 use Rattle.encoder_env.proofs.well_formed.Statement.{statement}
 use Rattle.encoder_env.proofs.well_formed.Tie as tie
-use Rattle.encoder_env.proofs.well_formed.Reads as reads
-use Rattle.encoder_env.proofs.well_formed.Lts as lts
-use Rattle.encoder_env.proofs.records_hold.Reads as records-hold-reads
 
 returns : tie.Need-returns
 unfolding well-formed
