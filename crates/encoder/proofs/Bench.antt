@@ -16,11 +16,13 @@ use Rattle.sat.specs.Lit.{neg}
 use Rattle.mixed.specs.Enumerate.{bounded, enumerate}
 use Rattle.log_adder.specs.Adder2.{eq-column}
 use Rattle.log_adder.specs.Column.{column}
-use Rattle.log_var.specs.EncodeVarLog.{encode-var-log}
-use Rattle.encoder.specs.Bench.{Barred, Row, RowHolds, all-barred, bench, row-test, same-lits, setting, sum, table-test}
+use Rattle.clause_set.specs.Stores.{add-clause}
+use Rattle.log_var.specs.Record.{pad}
+use Rattle.encoder_env.specs.WellFormed.{all-below, bounds-hold, encoding-at, encoding-holds, eqz, is-spare, lez, record-holds, well-formed}
+use Rattle.encoder.specs.Bench.{Barred, Row, RowHolds, all-barred, bench, outcome-of, row-test, same-lits, setting, stored, sum, table-test}
 
 bench-test : So (table-test bench)
-unfolding neg holds column eq-column enumerate bounded
+unfolding neg holds column eq-column enumerate bounded add-clause pad well-formed all-below record-holds is-spare encoding-holds bounds-hold lez eqz
 bench-test = refl
 
 same-lits-are : (xs ys : List ℕ) → So (same-lits xs ys) → xs ≡ ys
@@ -38,20 +40,22 @@ all-barred-are cs (k ∷ ks) h = let (p, q) = and-eq-true-iff (not (sat _ cs)) (
 -- a row's statement, from its test
 row-holds : (r : Row) → So (row-test r) → RowHolds r
 row-holds (setting r) h =
-    let o = encode-var-log (r .repr) 1 .encoding .offset in
-    let (a, h₁) = and-eq-true-iff _ _ .0 h in
+    let o = encoding-at (outcome-of r .env) 0 .offset in
+    let (z, h₀) = and-eq-true-iff _ _ .0 h in
+    let (a, h₁) = and-eq-true-iff _ _ .0 h₀ in
     let (b, h₂) = and-eq-true-iff _ _ .0 h₁ in
     let (c, h₃) = and-eq-true-iff _ _ .0 h₂ in
     let (d, h₄) = and-eq-true-iff _ _ .0 h₃ in
     let (e, h₅) = and-eq-true-iff _ _ .0 h₄ in
     let (f, g) = and-eq-true-iff _ _ .0 h₅ in
     record {
+      accepted = eqb-true _ _ z;
       lits-are = same-lits-are _ _ a;
       offset-is = same-read o (r .offset) .1 (omega (arith, eqb-true (up o) (up (r .offset)) b, eqb-true (down o) (down (r .offset)) c));
       vars-are = eqb-true _ _ d;
       clauses-are = eqb-true _ _ e;
       literals-are = eqb-true _ _ f;
-      barred-are = all-barred-are (encode-var-log (r .repr) 1 .clauses) (r .barred) g;
+      barred-are = all-barred-are (stored (outcome-of r)) (r .barred) g;
     }
 row-holds (sum r) h =
     let (a, h₁) = and-eq-true-iff _ _ .0 h in

@@ -1,3 +1,4 @@
 pub mod Bench
 pub mod Statuses
 pub mod Settings
+pub mod Acceptance

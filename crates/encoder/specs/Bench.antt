@@ -2,7 +2,7 @@
 use Prim.Native.Nat.{_*_, _+_, _-_, suc, ℕ}
 use lib.Dec.{eqb}
 use lib.IntN.{negsuc, pos, ℤ}
-use lib.ListN.{getD, length}
+use lib.ListN.{getD, length, replicate}
 use mathlib.Core.Bool.{Bool, _&&_, false, not, true}
 use mathlib.Core.List.{List, [], _∷_}
 use mathlib.Core.Path.{_≡_}
@@ -14,8 +14,13 @@ use Rattle.sat.specs.Lit.{neg}
 use Rattle.norm_csp.specs.Domain.{IntVarRepresentation, binary, list, range}
 use Rattle.norm_csp.specs.Rules.{CmpOp, LinearTerm, eq}
 use Rattle.sat.specs.Size.{entries}
+use Rattle.clause_set.specs.Stores.{clauses-of, stores}
 use Rattle.log_var.specs.EncodeVarLog.{encode-var-log}
 use Rattle.log_var.specs.LogEncoding.{LogEncoding, no-encoding}
+use Rattle.log_var.specs.Record.{lits-of}
+use Rattle.encoder_env.specs.WellFormed.{encoding-at}
+use Rattle.encoder.specs.Calls.{open-outcome, setting-outcome}
+use Rattle.encoder.specs.Outcome.{Outcome}
 use Rattle.log_linear.specs.EncodeLinearLog.{encode-linear-log}
 
 -- what stands for a bit: the switch literal c, its negation, or a new variable
@@ -87,13 +92,21 @@ abbrev pub Barred : Clauses → List ℕ → Type 0
 Barred cs [] = Unit
 Barred cs (k ∷ ks) = (sat (λ x. testbit k (x - 1)) cs ≡ false) × Barred cs ks
 
+-- the outcome of the row's call on a job opened with one switch, and the clauses that the stores then hold
+abbrev pub outcome-of : SettingRow → Outcome
+outcome-of r = let o = open-outcome 1 (replicate 16 0) (replicate 8 0) in setting-outcome (o .env) (o .lits) (o .ends) (r .repr)
+
+abbrev pub stored : Outcome → Clauses
+stored o = clauses-of (stores (o .lits) (o .ends) (o .env .literals) (o .env .clauses))
+
 pub record SettingHolds (r : SettingRow) : Type 0 where
-  pub lits-are : encode-var-log (r .repr) 1 .encoding .lits ≡ bit-lits 1 (r .bits)
-  pub offset-is : encode-var-log (r .repr) 1 .encoding .offset ≡ r .offset
-  pub vars-are : encode-var-log (r .repr) 1 .vars ≡ 1 + r .new-vars
-  pub clauses-are : length (encode-var-log (r .repr) 1 .clauses) ≡ r .clauses
-  pub literals-are : entries (encode-var-log (r .repr) 1 .clauses) ≡ r .literals
-  pub barred-are : Barred (encode-var-log (r .repr) 1 .clauses) (r .barred)
+  pub accepted : outcome-of r .status ≡ 0
+  pub lits-are : lits-of (encoding-at (outcome-of r .env) 0) ≡ bit-lits 1 (r .bits)
+  pub offset-is : encoding-at (outcome-of r .env) 0 .offset ≡ r .offset
+  pub vars-are : outcome-of r .env .variables ≡ 1 + r .new-vars
+  pub clauses-are : outcome-of r .env .clauses ≡ r .clauses
+  pub literals-are : outcome-of r .env .literals ≡ r .literals
+  pub barred-are : Barred (stored (outcome-of r)) (r .barred)
 
 -- settings one after the other, from v variables on
 pub record Settings : Type 0 where
@@ -135,13 +148,15 @@ all-barred cs (k ∷ ks) = not (sat (λ x. testbit k (x - 1)) cs) && all-barred 
 
 abbrev pub setting-test : SettingRow → Bool
 setting-test r =
-    let out = encode-var-log (r .repr) 1 in
-    same-lits (out .encoding .lits) (bit-lits 1 (r .bits))
-    && (eqb (up (out .encoding .offset)) (up (r .offset))
-    && (eqb (down (out .encoding .offset)) (down (r .offset))
-    && (eqb (out .vars) (1 + r .new-vars)
-    && (eqb (length (out .clauses)) (r .clauses)
-    && (eqb (entries (out .clauses)) (r .literals) && all-barred (out .clauses) (r .barred))))))
+    let o = outcome-of r in
+    let e = encoding-at (o .env) 0 in
+    eqb (o .status) 0
+    && (same-lits (lits-of e) (bit-lits 1 (r .bits))
+    && (eqb (up (e .offset)) (up (r .offset))
+    && (eqb (down (e .offset)) (down (r .offset))
+    && (eqb (o .env .variables) (1 + r .new-vars)
+    && (eqb (o .env .clauses) (r .clauses)
+    && (eqb (o .env .literals) (r .literals) && all-barred (stored o) (r .barred)))))))
 
 abbrev pub sum-test : SumRow → Bool
 sum-test r =

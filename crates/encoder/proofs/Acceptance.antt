@@ -1,0 +1,63 @@
+-- Where arguments are within bounds and there is room, a call is accepted.
+use mathlib.Core.Path.{_≡_, _∙_, refl}
+use mathlib.Core.Bool.{Bool, cond, false, true}
+use mathlib.Core.List.{List, [], _++_, _∷_}
+use Prim.Native.Nat.{_+_, _<_, _≤_, ℕ}
+use native.Mathlib.Omega.{arith}
+use lib.Dec.{lit<}
+use lib.ListN.{getD, length}
+use borrow.Author.Tests.{eq-eqb, le-leb, lt-ltb}
+use Rattle.sat.specs.Size.{entries}
+use Rattle.norm_csp.specs.Domain.{IntVarRepresentation, binary, list, range}
+use Rattle.log_var.specs.EncodeVarLog.{encode-var-log}
+use Rattle.encoder_env.specs.declared.EncoderEnv.{EncoderEnv}
+use Rattle.encoder_env.specs.WellFormed.{well-formed}
+use Rattle.encoder.specs.Calls.{all-bits, clause-outcome, open-outcome, read-outcome, setting-outcome, var-checks}
+use Rattle.encoder.specs.Outcome.{Check, status-of}
+
+-- no number is 0
+Numbered : List Check → Type 0
+Numbered [] = Unit
+Numbered (c ∷ cs) = (0 < c .number) × Numbered cs
+
+numbered : (switches : ℕ) (repr : IntVarRepresentation) → Numbered (var-checks switches repr)
+unfolding Numbered
+numbered s (range low high) = (lit< tt, tt)
+numbered s (list ks) = (lit< tt, (lit< tt, (lit< tt, (lit< tt, tt))))
+numbered s (binary c f t) = (lit< tt, (lit< tt, (lit< tt, (lit< tt, tt))))
+
+-- checks that all hold leave those after them
+then-rest : (cs ds : List Check) → Numbered cs → status-of cs ≡ 0 → status-of (cs ++ ds) ≡ status-of ds
+unfolding Numbered
+then-rest [] ds n h = refl
+then-rest (c ∷ cs) ds n h = go (c .holds) (status-of cs) (status-of (cs ++ ds)) (c .number) h (λ k. then-rest cs ds (n .1) k) (n .0) where
+  go : (t : Bool) (a b m : ℕ) → cond t a m ≡ 0 → (a ≡ 0 → b ≡ status-of ds) → 0 < m → cond t b m ≡ status-of ds
+  go true a b m e k p = k e
+  go false a b m e k p = absurd (omega arith)
+
+-- Open: at most 64 switches, stores within their bound, an entry for the leading 0
+pub open-accepted : (switches : ℕ) (lits ends : List ℕ)
+    → switches ≤ 64 → length lits ≤ 16777216 → length ends ≤ 16777216 → 1 ≤ length ends → open-outcome switches lits ends .status ≡ 0
+open-accepted switches lits ends s l e f = rw (le-leb switches 64 s, le-leb (length lits) 16777216 l, le-leb (length ends) 16777216 e, le-leb 1 (length ends) f)
+
+-- A setting: a well-formed job, arguments within bounds, a free record, variables and entries enough
+pub setting-accepted : (env : EncoderEnv) (lits ends : List ℕ) (repr : IntVarRepresentation)
+    → (let out = encode-var-log repr (env .variables) in
+    well-formed env (length lits) (length ends) ≡ true → status-of (var-checks (env .switches) repr) ≡ 0 → env .count < 32 → out .vars ≤ 65535
+    → env .literals + entries (out .clauses) ≤ length lits → env .clauses + length (out .clauses) + 1 ≤ length ends
+    → setting-outcome env lits ends repr .status ≡ 0)
+setting-accepted env lits ends repr w a n v l e =
+    let out = encode-var-log repr (env .variables) in
+    rw (w, then-rest (var-checks (env .switches) repr) _ (numbered (env .switches) repr) a, lt-ltb (env .count) 32 n, le-leb (out .vars) 65535 v, le-leb (env .literals + entries (out .clauses)) (length lits) l, le-leb (env .clauses + length (out .clauses) + 1) (length ends) e)
+
+-- Read: a well-formed job, a known setting, an assignment of the job's variables by 0 and 1
+pub read-accepted : (env : EncoderEnv) (lits ends : List ℕ) (x : ℕ) (assignment : List ℕ)
+    → well-formed env (length lits) (length ends) ≡ true → x < env .count → length assignment ≡ env .variables → all-bits assignment ≡ true
+    → read-outcome env lits ends x assignment .status ≡ 0
+read-accepted env lits ends x assignment w k n b = rw (w, lt-ltb x (env .count) k, eq-eqb (length assignment) (env .variables) n, b)
+
+-- Clause: a well-formed job, a clause below the count, whose ends do not fall and stay within the literals
+pub clause-accepted : (env : EncoderEnv) (lits ends : List ℕ) (k : ℕ)
+    → well-formed env (length lits) (length ends) ≡ true → k < env .clauses → getD ends k 0 ≤ getD ends (k + 1) 0 → getD ends (k + 1) 0 ≤ env .literals
+    → clause-outcome env lits ends k .status ≡ 0
+clause-accepted env lits ends k w n a b = rw (w, lt-ltb k (env .clauses) n, le-leb (getD ends k 0) (getD ends (k + 1) 0) a, le-leb (getD ends (k + 1) 0) (env .literals) b)
