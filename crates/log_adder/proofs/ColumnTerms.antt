@@ -30,7 +30,7 @@ fresh-last zero v = ap (λ (x : ℕ). x ∷ []) (omega arith)
 fresh-last (suc k) v =
     ap (λ (xs : List ℕ). 2 * v ∷ xs) (fresh-last k (suc v)) ∙ ap (λ (x : ℕ). 2 * v ∷ (fresh k (suc v) ++ (x ∷ []))) (omega arith)
 
--- The thresholds of a span -------------------------------------------------------------------------------------------
+-- The thresholds of consecutive variables ---------------------------------------------------------------------------
 
 range-thresholds : (w : ℕ) (p : VarRange) (k : ℕ) → k ≤ p .count → thresholds (range-info w false p) k ≡ fresh k (p .first .0 + (p .count - k))
 unfolding info-lit

@@ -34,7 +34,7 @@ state-bits s = map num (take (s .len) (s .bits))
 abbrev pub outcome : List ℕ → List ℕ → AdderState → Outcome
 outcome d e s = record { stores = after d e (s .used); bits = state-bits s; vars = s .vars }
 
--- Input-columns ------------------------------------------------------------------------------------------------------
+-- The columns as the code holds them ---------------------------------------------------------------------------------
 
 -- w columns from the i-th on, with the bits of k
 abbrev pub input-columns : ℕ → ℕ → List (List Lit) → List ℕ → ℕ → List AdderColumn
@@ -94,7 +94,7 @@ pub record ColumnAdded (d e : List ℕ) (c : ColumnInput) (s : AdderState) (d′
   pub wide : length (c .own) ≡ 12
   pub steady : InBounds r
 
--- The columns --------------------------------------------------------------------------------------------------
+-- The columns ---------------------------------------------------------------------------------------------------------
 
 -- the result literals that are given
 abbrev pub given-lits : AdderInput → List Lit → List ℕ
@@ -119,7 +119,7 @@ pub record ColumnsAdded (d e : List ℕ) (cols : List (List Lit)) (counts : List
       ≡ then (after d′ e′ (r .used)) (state-bits r) (extend (r .carry .count) (range-lits (r .carry)) (r .vars)))
       × InBounds r × (r .len ≡ s .len + p .width)
 
--- what the loop over the carry-size leaves
+-- what the columns past the last leave
 pub record Extended (d e : List ℕ) (s : AdderState) (d′ e′ : List ℕ) (r : AdderState) : Type 0 where
   pub done : outcome d′ e′ r ≡ then (after d e (s .used)) (state-bits s) (extend (s .carry .count) (range-lits (s .carry)) (s .vars))
   pub steady : InBounds r

@@ -21,7 +21,7 @@ lit x = record { 0 = x }
 abbrev pub AllLow : List Lit → Type 0
 AllLow ls = (k : ℕ) → getD ls k (lit 0) .0 < 2 ^ 31
 
--- the variables of a span, as literals
+-- consecutive variables, as literals
 abbrev pub range-lits : VarRange → List ℕ
 range-lits s = fresh (s .count) (s .first .0)
 

@@ -45,9 +45,9 @@ abbrev pub widths : ℕ → ℕ → ℕ → ℕ → ℕ → ℕ
 widths zero k o n w = w
 widths (suc f) k o n w = widths f (k / 2) (suc o) n (cond (eqb (k % 2) 1) (max w (o + n)) w)
 
--- Input-columns for the adders ---------------------------------------------------------------------------------------
+-- Columns for the adders ---------------------------------------------------------------------------------------------
 
--- w columns of the grid from the i-th on, with the bits of k
+-- w columns of the arrays from the i-th on, with the bits of k
 abbrev pub grid-columns : ℕ → ℕ → Grid → ℕ → List AdderColumn
 grid-columns zero i g k = []
 grid-columns (suc w) i g k = record { own = getD g i []; constant = k % 2 } ∷ grid-columns w (i + 1) g (k / 2)

@@ -119,7 +119,7 @@ fn width_bit(w: usize, n: usize, o: usize, k: u32) -> usize
     w
 }
 
-// How many columns there are after `gather`.
+// How many columns there are after `push_scaled`.
 pub fn width_after(width: usize, n: usize, coef: u32) -> usize
     requires { ⌜ (width ≤ 32) × (n ≤ 12) ⌝ }
     ensures { λ r. ⌜ (r ≡ widths 12 coef 0 n width) × (r ≤ 32) ⌝ }

@@ -1,4 +1,4 @@
--- `push-scaled::negate_all` meets its contract.
+-- `log_gather::negate_all` meets its contract.
 use mathlib.Core.Path.{_≡_, refl, _∙_}
 use mathlib.Core.List.{map}
 use Prim.Native.Nat.{_-_, _^_, _≤_, _<_}

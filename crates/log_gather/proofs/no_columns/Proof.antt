@@ -1,4 +1,4 @@
--- `push-scaled::no_columns` meets its contract.
+-- `log_gather::no_columns` meets its contract.
 use Rattle.log_gather.proofs.no_columns.Statement.{statement}
 use Rattle.log_gather.proofs.no_columns.Tie as tie
 use Rattle.log_gather.proofs.Pushing.{nothing-held}

@@ -1,4 +1,4 @@
--- `push-scaled::push_bit` meets its contract.
+-- `log_gather::push_bit` meets its contract.
 use borrow.Author.Needs.{needs}
 use Rattle.log_gather.proofs.push_bit.Statement.{statement}
 use Rattle.log_gather.proofs.push_bit.Tie as tie

@@ -1,4 +1,4 @@
--- `push-scaled::push_lit` meets its contract.
+-- `log_gather::push_lit` meets its contract.
 use native.Mathlib.Omega.{arith}
 use borrow.Author.Needs.{needs}
 use Rattle.log_gather.proofs.push_lit.Statement.{statement}

@@ -1,4 +1,4 @@
--- `push-scaled::push_scaled` meets its contract.
+-- `log_gather::push_scaled` meets its contract.
 use Prim.Native.Nat.{_-_}
 use native.Mathlib.Omega.{arith}
 use borrow.Author.Needs.{needs}

@@ -1,4 +1,4 @@
--- `push-scaled::push_value` meets its contract.
+-- `log_gather::push_value` meets its contract.
 use mathlib.Core.Path.{_≡_}
 use mathlib.Core.List.{[], _∷_}
 use Prim.Native.Nat.{_+_, _-_, _≤_}

@@ -1,4 +1,4 @@
--- `push-scaled::width_after` meets its contract.
+-- `log_gather::width_after` meets its contract.
 use mathlib.Core.Path.{_≡_, refl, sym, _∙_}
 use Prim.Native.Nat.{_-_, _+_, _/_, _≤_}
 use native.Mathlib.Omega.{arith}

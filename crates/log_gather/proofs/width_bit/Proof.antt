@@ -1,4 +1,4 @@
--- `push-scaled::width_bit` meets its contract.
+-- `log_gather::width_bit` meets its contract.
 use native.Mathlib.Omega.{arith}
 use borrow.Author.Tests.{eq-eqb, ne-eqb}
 use borrow.Author.Needs.{needs}
