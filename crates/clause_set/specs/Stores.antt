@@ -62,6 +62,12 @@ abbrev pub clauses-from : List ℕ → List ℕ → ℕ → ℕ → Clauses
 clauses-from lits ends k zero = []
 clauses-from lits ends k (suc n) = clause-at lits ends k ∷ clauses-from lits ends (suc k) n
 
+-- n clauses whose ends stand behind end k, the first of them from `begin` on; where end k is `begin`, these are the clauses from k on
+abbrev pub clauses-after : List ℕ → List ℕ → ℕ → ℕ → ℕ → Clauses
+clauses-after lits ends begin k zero = []
+clauses-after lits ends begin k (suc n) =
+    part begin (getD ends (k + 1) 0) lits ∷ clauses-after lits ends (getD ends (k + 1) 0) (suc k) n
+
 -- all clauses of the stores
 abbrev pub clauses-of : Stores → Clauses
 clauses-of s = clauses-from (s .lits) (s .ends) 0 (s .count)

@@ -1,5 +1,5 @@
 -- Where arguments are within bounds and there is room, a call is accepted.
-use mathlib.Core.Path.{_≡_, _∙_, refl}
+use mathlib.Core.Path.{_≡_, refl}
 use mathlib.Core.Bool.{Bool, cond, false, true}
 use mathlib.Core.List.{List, [], _++_, _∷_}
 use Prim.Native.Nat.{_+_, _<_, _≤_, ℕ}

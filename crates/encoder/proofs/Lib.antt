@@ -2,3 +2,5 @@ pub mod Bench
 pub mod Statuses
 pub mod Settings
 pub mod Acceptance
+pub mod Adding
+pub mod AddedSetting

@@ -14,6 +14,7 @@ use Rattle.sat.specs.Size.{entries}
 use Rattle.clause_set.specs.declared.Counts.{Counts}
 use Rattle.clause_set.specs.Stores.{Stores, add-clauses, after}
 use Rattle.clause_set.proofs.Adding.{count-after, used-after}
+use Rattle.norm_csp.proofs.NormCsp.{KnownVar}
 use Rattle.norm_csp.specs.Domain.{IntVarRepresentation, RisingFrom, binary, last-from, list, range}
 use Rattle.log_var.specs.Calls.{Ready, VarAdded}
 use Rattle.log_var.specs.EncodeVarLog.{encode-var-log}
@@ -25,7 +26,8 @@ use Rattle.encoder_env.specs.WellFormed.{bounds-hold, lez, well-formed}
 use Rattle.encoder_env.proofs.Kept.{Kept, all-at, kept}
 use Rattle.encoder_env.proofs.Tests.{both, bounds-known, lt-lez, order-lez}
 use Rattle.encoder.specs.declared.Answer.{Answer}
-use Rattle.encoder.specs.Calls.{all-in-range, code-fits, in-range, rising, setting-checks, setting-outcome, space-checks, with-encoding}
+use Rattle.encoder.specs.Calls.{all-in-range, code-fits, in-range, rising, setting-checks, setting-outcome, with-encoding}
+use Rattle.encoder.specs.Adding.{space-checks}
 use Rattle.encoder.specs.Outcome.{Answers, status-of}
 use Rattle.encoder.specs.Sizes.{SizeOf, counts-of, job-after}
 use Rattle.encoder.proofs.Statuses.{accepts, passed, refuses}
@@ -45,6 +47,7 @@ sized repr vars at d e d₁ e₁ r w =
 pub record Admitted (env : EncoderEnv) (lits ends : ℕ) (repr : IntVarRepresentation) : Type 0 where
   pub holds : Kept env lits ends
   pub free : env .count < 32
+  pub known : KnownVar (env .switches) repr
   pub ready : Ready repr (env .variables) (counts-of env)
 
 pub range-admitted : (env : EncoderEnv) (lits ends : ℕ) (low high : ℤ)
@@ -58,6 +61,7 @@ range-admitted env lits ends low high h =
     record {
       holds = k;
       free = ltb-true (env .count) 32 (n .0);
+      known = tt;
       ready =
           record {
             encodable = (v .ordered, omega (arith, v .code-max));
@@ -91,6 +95,7 @@ binary-admitted env lits ends c f t h =
     record {
       holds = k;
       free = ltb-true (env .count) 32 (n .0);
+      known = ltb-true c (2 * env .switches) (s .0);
       ready =
           record {
             encodable = (omega (arith, ltb-true c (2 * env .switches) (s .0), k .switches-in), record { lt = rw (o .0) tt }, omega (arith, v .code-max));
@@ -141,6 +146,7 @@ list-admitted env lits ends (z ∷ zs) h =
     record {
       holds = k;
       free = ltb-true (env .count) 32 (n .0);
+      known = tt;
       ready =
           record {
             encodable = (rising-known z zs (r .0), rw (← e) (omega (arith, v .code-max)));
@@ -150,6 +156,12 @@ list-admitted env lits ends (z ∷ zs) h =
             clauses-fit = omega (arith, k .clauses-in, k .ends-max);
           };
     }
+
+pub admitted : (env : EncoderEnv) (lits ends : ℕ) (repr : IntVarRepresentation)
+    → status-of (setting-checks env lits ends repr) ≡ 0 → Admitted env lits ends repr
+admitted env lits ends (range low high) h = range-admitted env lits ends low high h
+admitted env lits ends (list ks) h = list-admitted env lits ends ks h
+admitted env lits ends (binary c f t) h = binary-admitted env lits ends c f t h
 
 module _ (env : EncoderEnv) (lits ends : List ℕ) (repr : IntVarRepresentation) (r : ℕ)
     (s : r ≡ status-of (setting-checks env (length lits) (length ends) repr)) where

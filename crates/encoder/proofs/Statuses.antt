@@ -1,13 +1,13 @@
 -- What a status says of the checks, and what a call answers by it.
-use mathlib.Core.Path.{_≡_, refl}
+use mathlib.Core.Path.{_≡_, _∙_, ap, refl, sym}
 use mathlib.Core.Bool.{Bool, _&&_, cond, false, true}
 use mathlib.Core.List.{List}
 use Prim.Native.Nat.{_+_, _<_, _≤_, suc, ℕ}
-use lib.Dec.{leb, ltb}
+use lib.Dec.{eqb, leb, ltb}
 use lib.ListN.{getD, length}
 use lib.IntN.{pos}
 use native.Mathlib.Omega.{arith}
-use borrow.Author.Tests.{leb-true, ltb-true, ne-eqb}
+use borrow.Author.Tests.{eqb-false, eqb-true, leb-true, ltb-true, ne-eqb}
 use Rattle.encoder_env.specs.declared.EncoderEnv.{EncoderEnv}
 use Rattle.encoder_env.specs.WellFormed.{well-formed}
 use Rattle.encoder_env.proofs.Kept.{Kept, kept}
@@ -35,6 +35,15 @@ module _ (r status : ℕ) (s : r ≡ status) (env : EncoderEnv) (lits ends : Lis
   -- an acceptance
   pub accepts : (a : Answer) (l e : List ℕ) → r ≡ 0 → Answers ok a l e → Answers (settled status env lits ends ok) a l e
   accepts a l e h k = rw (settled-accepted h) k
+
+-- an outcome with the number 0 is that of all checks holding
+pub settled-known : (status : ℕ) (env : EncoderEnv) (lits ends : List ℕ) (ok : Outcome) → settled status env lits ends ok .status ≡ 0
+    → (status ≡ 0) × (settled status env lits ends ok ≡ ok)
+settled-known status env lits ends ok h = go (eqb status 0) refl
+  where
+    go : (t : Bool) → eqb status 0 ≡ t → (status ≡ 0) × (settled status env lits ends ok ≡ ok)
+    go true e = (eqb-true status 0 e, rw e)
+    go false e = absurd (eqb-false status 0 e (sym (ap (λ (o : Outcome). o .status) (settled-refused status status refl env lits ends ok (eqb-false status 0 e))) ∙ h))
 
 -- a clause that may be handed back lies within the literals in use
 pub clause-within : (env : EncoderEnv) (lits : ℕ) (ends : List ℕ) (k : ℕ) → status-of (clause-checks env lits ends k) ≡ 0

@@ -7,14 +7,14 @@ use lib.Signed.{ltZ}
 use mathlib.Core.Bool.{Bool, _&&_}
 use mathlib.Core.List.{List, [], _++_, _∷_}
 use Rattle.arithmetic.specs.Offset.{code, offset-of}
-use Rattle.sat.specs.Size.{entries}
 use Rattle.norm_csp.specs.Domain.{IntVarRepresentation, binary, list, range}
 use Rattle.log_var.specs.EncodeVarLog.{EncodedVar, encode-var-log}
 use Rattle.log_var.specs.Record.{read-bytes, record-of}
 use Rattle.log_var.specs.declared.LogEncoding.{LogEncoding}
-use Rattle.clause_set.specs.Stores.{add-clauses, clause-at, stores}
+use Rattle.clause_set.specs.Stores.{clause-at}
 use Rattle.encoder_env.specs.declared.EncoderEnv.{EncoderEnv}
 use Rattle.encoder_env.specs.WellFormed.{all-below, bounds-hold, encoding-at, lez, no-lit, well-formed}
+use Rattle.encoder.specs.Adding.{adding, grown}
 use Rattle.encoder.specs.Outcome.{Check, Outcome, check, settled, status-of}
 
 -- Open ---------------------------------------------------------------------------------------------------------------
@@ -48,10 +48,12 @@ clause-checks env lits ends k =
     ∷ check (leb (getD ends k 0) (getD ends (k + 1) 0) && leb (getD ends (k + 1) 0) (env .literals)) 1
     ∷ []
 
+-- a clause handed back: nothing is changed
+abbrev pub clause-read : EncoderEnv → List ℕ → List ℕ → ℕ → Outcome
+clause-read env lits ends k = record { status = 0; env = env; value = pos 0; part = clause-at lits ends k; lits = lits; ends = ends }
+
 abbrev pub clause-outcome : EncoderEnv → List ℕ → List ℕ → ℕ → Outcome
-clause-outcome env lits ends k =
-    settled (status-of (clause-checks env (length lits) ends k)) env lits ends
-    (record { status = 0; env = env; value = pos 0; part = clause-at lits ends k; lits = lits; ends = ends })
+clause-outcome env lits ends k = settled (status-of (clause-checks env (length lits) ends k)) env lits ends (clause-read env lits ends k)
 
 -- Settings -----------------------------------------------------------------------------------------------------------
 
@@ -86,31 +88,24 @@ abbrev pub setting-checks : EncoderEnv → ℕ → ℕ → IntVarRepresentation 
 setting-checks env lits ends repr =
     check (well-formed env lits ends) 1 ∷ (var-checks (env .switches) repr ++ (check (ltb (env .count) 32) 7 ∷ []))
 
--- of every call that adds, where the counts after it are these: 14 variables would pass 65,535; 15 the clauses don't fit the entries left
-abbrev pub space-checks : ℕ → ℕ → ℕ → ℕ → ℕ → List Check
-space-checks vars literals clauses lits ends =
-    check (leb vars 65535) 14 ∷ check (leb literals lits && leb (clauses + 1) ends) 15 ∷ []
-
 -- the job with the new record behind those in use
 abbrev pub with-encoding : EncoderEnv → EncodedVar → EncoderEnv
 with-encoding env out =
+    let job = grown env (out .vars) (out .clauses) in
     record {
-      switches = env .switches;
-      variables = out .vars;
-      clauses = env .clauses + length (out .clauses);
-      literals = env .literals + entries (out .clauses);
+      switches = job .switches;
+      variables = job .variables;
+      clauses = job .clauses;
+      literals = job .literals;
       count = env .count + 1;
       encodings = set (env .encodings) (env .count) (record-of (out .encoding));
     }
 
--- a range, a list or two values: the checks, then space, then the clauses of `encode-var-log` behind those in use
+-- a range, a list or two values: what `encode-var-log` gives
 abbrev pub setting-outcome : EncoderEnv → List ℕ → List ℕ → IntVarRepresentation → Outcome
 setting-outcome env lits ends repr =
     let out = encode-var-log repr (env .variables) in
-    let after = add-clauses 0 (out .clauses) (stores lits ends (env .literals) (env .clauses)) in
-    settled (status-of (setting-checks env (length lits) (length ends) repr)) env lits ends
-    (settled (status-of (space-checks (out .vars) (env .literals + entries (out .clauses)) (env .clauses + length (out .clauses)) (length lits) (length ends))) env lits ends
-    (record { status = 0; env = with-encoding env out; value = pos 0; part = []; lits = after .lits; ends = after .ends }))
+    adding (status-of (setting-checks env (length lits) (length ends) repr)) env lits ends (out .clauses) (with-encoding env out)
 
 -- Read ---------------------------------------------------------------------------------------------------------------
 
@@ -126,7 +121,11 @@ read-checks env lits ends x assignment =
     ∷ check (eqb (length assignment) (env .variables) && all-bits assignment) 16
     ∷ []
 
+-- an accepted reading changes nothing
+abbrev pub value-read : EncoderEnv → List ℕ → List ℕ → ℕ → List ℕ → Outcome
+value-read env lits ends x assignment =
+    record { status = 0; env = env; value = read-bytes assignment (encoding-at env x); part = []; lits = lits; ends = ends }
+
 abbrev pub read-outcome : EncoderEnv → List ℕ → List ℕ → ℕ → List ℕ → Outcome
 read-outcome env lits ends x assignment =
-    settled (status-of (read-checks env (length lits) (length ends) x assignment)) env lits ends
-    (record { status = 0; env = env; value = read-bytes assignment (encoding-at env x); part = []; lits = lits; ends = ends })
+    settled (status-of (read-checks env (length lits) (length ends) x assignment)) env lits ends (value-read env lits ends x assignment)

@@ -1,4 +1,6 @@
 pub mod Bench
 pub mod Outcome
+pub mod Adding
 pub mod Calls
+pub mod Encoded
 pub mod Sizes

@@ -4,7 +4,7 @@ use mathlib.Core.Bool.{Bool, cond, false, false≢true, true}
 use Prim.Native.Nat.{_+_, _<_, _≤_, ℕ}
 use native.Mathlib.Omega.{arith}
 use lib.Dec.{eqb}
-use borrow.Author.Tests.{eqb-true, leb-true, lt-ltb}
+use borrow.Author.Tests.{eqb-true, le-leb, leb-true, lt-ltb}
 use Rattle.arithmetic.specs.Bits.{bit-length}
 use Rattle.arithmetic.specs.Integers.{down, up}
 use Rattle.arithmetic.specs.Offset.{code, offset-of}
@@ -41,6 +41,21 @@ kept env lits ends h =
       records = search (both-l, both-r) depth 12;
     }
 
+pub well-formed-of : (env : EncoderEnv) (lits ends : ℕ) → Kept env lits ends → well-formed env lits ends ≡ true
+unfolding well-formed
+well-formed-of env lits ends k =
+    rw (
+      le-leb lits 16777216 (k .lits-max),
+      le-leb ends 16777216 (k .ends-max),
+      le-leb (env .switches) 64 (k .switches-max),
+      le-leb (env .variables) 65535 (k .variables-max),
+      le-leb (env .switches) (env .variables) (k .switches-in),
+      le-leb (env .count) 32 (k .count-max),
+      le-leb (env .literals) lits (k .literals-in),
+      le-leb (env .clauses + 1) ends (k .clauses-in),
+      k .records,
+    )
+
 -- a test of every number below a bound, at one of them
 pub all-at : (f : ℕ → Bool) (n i : ℕ) → all-below n f ≡ true → i < n → f i ≡ true
 all-at f n i h k = go (f i) refl where
@@ -71,8 +86,11 @@ readable variables e h =
     }
 
 -- a record in use
-pub in-use : (env : EncoderEnv) (lits ends x : ℕ) → Kept env lits ends → x < env .count → Readable (encoding-at env x)
+pub holds-in-use : (env : EncoderEnv) (lits ends x : ℕ) → Kept env lits ends → x < env .count → encoding-holds (env .variables) (encoding-at env x) ≡ true
 unfolding record-holds
-in-use env lits ends x k h =
+holds-in-use env lits ends x k h =
     let r = all-at (record-holds env) 32 x (k .records) (omega (arith, h, k .count-max)) in
-    readable (env .variables) (encoding-at env x) (sym (ap (λ (t : Bool). cond t (encoding-holds (env .variables) (encoding-at env x)) (is-spare (encoding-at env x))) (lt-ltb x (env .count) h)) ∙ r)
+    sym (ap (λ (t : Bool). cond t (encoding-holds (env .variables) (encoding-at env x)) (is-spare (encoding-at env x))) (lt-ltb x (env .count) h)) ∙ r
+
+pub in-use : (env : EncoderEnv) (lits ends x : ℕ) → Kept env lits ends → x < env .count → Readable (encoding-at env x)
+in-use env lits ends x k h = readable (env .variables) (encoding-at env x) (holds-in-use env lits ends x k h)

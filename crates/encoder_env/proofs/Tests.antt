@@ -55,7 +55,7 @@ lt-lez (pos a) (negsuc b) h = absurd (false≢true h)
 lt-lez (negsuc a) (pos b) h = refl
 lt-lez (negsuc a) (negsuc b) h = le-leb b a (omega (arith, ltb-true b a h))
 
-eqz-refl : (z : ℤ) → eqz z z ≡ true
+pub eqz-refl : (z : ℤ) → eqz z z ≡ true
 unfolding eqz
 eqz-refl (pos n) = eq-eqb n n refl
 eqz-refl (negsuc n) = eq-eqb n n refl

@@ -5,7 +5,7 @@ use lib.ListN.{length}
 use lib.Signed.{_≤ℤ_}
 use mathlib.Core.Bool.{Bool, Bool·beq, cond, false, true}
 use mathlib.Core.List.{List, [], _∷_, map}
-use mathlib.Core.Path.{_≡_, ap, refl}
+use mathlib.Core.Path.{_≡_, refl}
 use native.Mathlib.Nat.{mul-le-mul-left}
 use native.Mathlib.Omega.{arith}
 use Rattle.arithmetic.specs.Bits.{bit-length, odd}
@@ -14,13 +14,13 @@ use Rattle.arithmetic.specs.Offset.{code, offset-of}
 use Rattle.arithmetic.proofs.Bits.{bit-length-least}
 use Rattle.arithmetic.proofs.Integers.{<ℤ-le, apart-read, order-read, ≤ℤ-trans}
 use Rattle.arithmetic.proofs.Offset.{code-read, offset-low, offset-read}
-use Rattle.sat.specs.Clause.{Clauses}
 use Rattle.sat.specs.Size.{entries}
 use Rattle.sat.proofs.Fresh.{length-fresh}
 use Rattle.clause_set.specs.declared.Counts.{Counts}
 use Rattle.clause_set.specs.Stores.{Fits}
 use Rattle.norm_csp.specs.Domain.{IntVarRepresentation, RisingFrom, binary, last-from, list, range}
-use Rattle.log_var.specs.Calls.{Ready}
+use Rattle.log_var.specs.Calls.{Ready, lowest}
+use Rattle.log_var.specs.LogEncoding.{LogEncoding}
 use Rattle.log_var.specs.Parts.{CodesFit}
 use Rattle.log_var.specs.EncodeVarLog.{EncodedVar, Encodable, encode-binary, encode-domain, encode-var-log}
 use Rattle.log_var.specs.Size.{at-least-count, at-most-count, binary-vars, domain-count, missing-codes}
@@ -152,3 +152,35 @@ pub ready-fits : (repr : IntVarRepresentation) (vars : ℕ) (at : Counts) → Re
 ready-fits repr vars at r =
     let f = encode-var-log-few vars repr (r .encodable) in
     record { lits = omega (arith, r .lits-fit, f .clauses, f .literals); clauses = omega (arith, r .clauses-fit, f .clauses) }
+
+-- The record ---------------------------------------------------------------------------------------------------------
+
+-- low and high, and what document 01 has follow from them
+pub record Recorded (e : LogEncoding) : Type 0 where
+  pub ordered : e .low ≤ℤ e .high
+  pub low-max : down (e .low) ≤ 4095
+  pub code-max : code (offset-of (e .low)) (e .high) < 4096
+  pub offset-is : e .offset ≡ offset-of (e .low)
+  pub long : length (e .lits) ≡ bit-length (code (offset-of (e .low)) (e .high))
+
+pub recorded : (v : ℕ) (repr : IntVarRepresentation) → Encodable v repr → down (lowest repr) ≤ 4095 → Recorded (encode-var-log repr v .encoding)
+recorded v (range low high) h d =
+    record { ordered = h .0; low-max = d; code-max = h .1; offset-is = refl; long = length-fresh (bit-length (code (offset-of low) high)) v }
+recorded v (list []) h d = absurd h
+recorded v (list (k ∷ ks)) h d =
+    record {
+      ordered = rising-last k ks (h .0);
+      low-max = d;
+      code-max = h .1;
+      offset-is = refl;
+      long = length-fresh (bit-length (code (offset-of k) (last-from k ks))) v;
+    }
+recorded v (binary c f t) h d =
+    let o = offset-of f in
+    record {
+      ordered = <ℤ-le f t (h .1);
+      low-max = d;
+      code-max = h .2;
+      offset-is = refl;
+      long = bits-long (bit-length (code o t)) (code o f) (code o t) c v;
+    }

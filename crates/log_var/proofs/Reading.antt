@@ -15,11 +15,12 @@ use Rattle.sat.specs.Clause.{holds}
 use Rattle.sat.specs.Encodes.{LitsBelow}
 use Rattle.sat.specs.Number.{code-of}
 use Rattle.sat.specs.declared.Lit.{Lit}
-use Rattle.clause_set.specs.Bytes.{lit-holds}
+use Rattle.clause_set.specs.Bytes.{Bits, lit-holds}
 use Rattle.clause_set.specs.Clause.{num}
-use Rattle.clause_set.proofs.Bytes.{Bits, clause-holds-sat, truth}
+use Rattle.clause_set.proofs.Bytes.{clause-holds-sat, truth}
 use Rattle.log_var.specs.LogEncoding.{LogEncoding, get-int-value}
-use Rattle.log_var.specs.Record.{code-of-bytes, lit, lits-of, pad, read-bytes, record-of}
+use Rattle.log_var.specs.Record.{code-of-bytes, encoding-of, lit, lits-of, pad, read-bytes, record-of}
+use Rattle.log_var.specs.declared.LogEncoding.{LogEncoding as Encoding}
 
 -- The loop -----------------------------------------------------------------------------------------------------------
 
@@ -81,7 +82,9 @@ pub lits-of-record : (e : LogEncoding) → lits-of (record-of e) ≡ e .lits
 unfolding pad
 lits-of-record e = ap (map num) (take-at (map lit (e .lits)) _ (length (e .lits)) (length-map (e .lits) lit)) ∙ nums (e .lits)
 
-pub read-bytes-is : (bytes : List ℕ) (e : LogEncoding) → Bits bytes → LitsBelow (length bytes) (e .lits)
-    → read-bytes bytes (record-of e) ≡ get-int-value (truth bytes) e
-read-bytes-is bytes e b h =
-    ap (value (e .offset)) (ap (code-of-bytes bytes) (lits-of-record e) ∙ code-of-bytes-is bytes (e .lits) b h)
+pub encoding-back : (e : LogEncoding) → encoding-of (record-of e) ≡ e
+encoding-back e = λ i. record { lits = lits-of-record e i; low = e .low; high = e .high; offset = e .offset }
+
+pub read-bytes-is : (bytes : List ℕ) (e : Encoding) → Bits bytes → LitsBelow (length bytes) (lits-of e)
+    → read-bytes bytes e ≡ get-int-value (truth bytes) (encoding-of e)
+read-bytes-is bytes e b h = ap (value (e .offset)) (code-of-bytes-is bytes (lits-of e) b h)

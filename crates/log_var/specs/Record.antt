@@ -26,6 +26,10 @@ record-of e = record { lits = pad (e .lits); len = length (e .lits); low = e .lo
 abbrev pub lits-of : Encoding → List ℕ
 lits-of e = map num (take (e .len) (e .lits))
 
+-- the setting that a record is
+abbrev pub encoding-of : Encoding → LogEncoding
+encoding-of e = record { lits = lits-of e; low = e .low; high = e .high; offset = e .offset }
+
 -- the sum of 2 ^ i over those literals that hold under an assignment of bytes
 abbrev pub code-of-bytes : List ℕ → List ℕ → ℕ
 code-of-bytes bytes [] = 0
