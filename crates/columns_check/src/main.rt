@@ -466,12 +466,12 @@ fn run_adder(nums: &[u32], lits: &mut [u32], ends: &mut [u32])
         constant: number(nums, 1),
         given,
     };
-    let first = results(nums, 4, given);
-    let s = log_adder::log_encoding_adder(lits, ends, cols, counts, first, p, vars, nothing());
-    if s.tall {
+    if !log_adder::heights_fit(counts, p.width, p.constant) {
         show(b"tall\n");
         return;
     }
+    let first = results(nums, 4, given);
+    let s = log_adder::log_encoding_adder(lits, ends, cols, counts, first, p, vars, nothing());
     show_bits(s);
     show_clauses(lits, ends, s.used);
 }
@@ -490,11 +490,11 @@ fn run_eq_adder(nums: &[u32], lits: &mut [u32], ends: &mut [u32])
     let mut counts = [0u32; 32];
     let cols = gather(nums, 4, &mut counts);
     let g = EqInput { width, x, y, vars };
-    let s = log_adder2::log_encoding_adder2(lits, ends, cols, counts, g, nothing());
-    if s.tall {
+    if !log_adder2::eq_heights_fit(counts, width, x, y) {
         show(b"tall\n");
         return;
     }
+    let s = log_adder2::log_encoding_adder2(lits, ends, cols, counts, g, nothing());
     show(b"eq_adder");
     show_number(s.vars);
     show_clauses(lits, ends, s.used);

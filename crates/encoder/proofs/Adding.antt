@@ -1,5 +1,6 @@
--- An accepted call that adds (`known`): what it had, and what it left.
-use mathlib.Core.Path.{_≡_, _∙_, ap, sym}
+-- An accepted call that adds (`known`): what it had, and what it left. Of a rule: what its clauses say (`rule-encodes`), and that the job
+-- stays well formed (`rule-well-formed`).
+use mathlib.Core.Path.{_≡_, _∙_, ap, refl, sym}
 use mathlib.Core.Bool.{_&&_, true}
 use mathlib.Core.List.{List}
 use Prim.Native.Nat.{_+_, _-_, _≤_, ℕ}
@@ -7,15 +8,18 @@ use native.Mathlib.Omega.{arith}
 use lib.Dec.{leb}
 use lib.ListN.{getD, length}
 use borrow.Author.Tests.{leb-true}
-use Rattle.sat.specs.Clause.{Clauses}
+use Rattle.sat.specs.Clause.{Assignment, Clauses}
+use Rattle.sat.specs.Encoded.{EncodedRule}
+use Rattle.sat.specs.Encodes.{Any, Encodes}
 use Rattle.sat.specs.Size.{entries}
 use Rattle.clause_set.specs.Stores.{Stores, add-clauses, clauses-after, clauses-from, stores}
 use Rattle.clause_set.proofs.ReadBack.{added-back, from-after, kept-end, kept-long}
 use Rattle.encoder_env.specs.declared.EncoderEnv.{EncoderEnv}
 use Rattle.encoder_env.specs.WellFormed.{all-below, record-holds, well-formed}
 use Rattle.encoder_env.proofs.Kept.{Kept, well-formed-of}
+use Rattle.encoder_env.proofs.Records.{records-more}
 use Rattle.encoder_env.proofs.Tests.{both}
-use Rattle.encoder.specs.Adding.{added, adding, space-for}
+use Rattle.encoder.specs.Adding.{added, adding, grown, space-for}
 use Rattle.encoder.specs.Encoded.{added-clauses}
 use Rattle.encoder.specs.Outcome.{Outcome, status-of}
 use Rattle.encoder.proofs.Statuses.{passed, settled-known}
@@ -87,3 +91,29 @@ module _ (status : ℕ) (env : EncoderEnv) (lits ends : List ℕ) (clauses : Cla
           clauses-in = omega (arith, long, counted, a .ends-fit);
           records = r;
         })
+
+-- An accepted rule ---------------------------------------------------------------------------------------------------
+
+module _ (status : ℕ) (env : EncoderEnv) (lits ends : List ℕ) (out : EncodedRule) (R : Assignment → Type 0) where
+  abbrev job : EncoderEnv
+  job = grown env (out .vars) (out .clauses)
+
+  pub record RuleAdded : Type 0 where
+    pub holds : Kept env (length lits) (length ends)
+    pub accepted : Accepted status env lits ends (out .clauses) job
+    pub says : Encodes (env .variables) (out .vars) Any R (out .clauses)
+
+  module _ (a : RuleAdded) where
+    -- what the clauses that the stores hold say
+    pub rule-encodes : (let o = adding status env lits ends (out .clauses) job in Encodes (env .variables) (o .env .variables) Any R (added-clauses env o))
+    rule-encodes =
+        let o = adding status env lits ends (out .clauses) job in
+        let vars : o .env .variables ≡ out .vars = ap (λ (x : Outcome). x .env .variables) (a .accepted .outcome-is) in
+        rw (clauses-are status env lits ends (out .clauses) job (a .accepted) refl, vars) (a .says)
+
+    pub rule-well-formed : (let after = add-clauses 0 (out .clauses) (stores lits ends (env .literals) (env .clauses)) in
+        well-formed job (length (after .lits)) (length (after .ends)) ≡ true)
+    rule-well-formed =
+        let k = a .holds in
+        still-well-formed status env lits ends (out .clauses) job (a .accepted) refl k refl (a .says .grows) refl (k .count-max)
+        (records-more env job refl refl (a .says .grows) (k .records))

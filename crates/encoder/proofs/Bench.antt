@@ -58,9 +58,10 @@ row-holds (setting r) h =
       barred-are = all-barred-are (stored (outcome-of r)) (r .barred) g;
     }
 row-holds (sum r) h =
-    let (a, h₁) = and-eq-true-iff _ _ .0 h in
+    let (z, h₀) = and-eq-true-iff _ _ .0 h in
+    let (a, h₁) = and-eq-true-iff _ _ .0 h₀ in
     let (b, c) = and-eq-true-iff _ _ .0 h₁ in
-    record { vars-are = eqb-true _ _ a; clauses-are = eqb-true _ _ b; literals-are = eqb-true _ _ c }
+    record { accepted = eqb-true _ _ z; vars-are = eqb-true _ _ a; clauses-are = eqb-true _ _ b; literals-are = eqb-true _ _ c }
 
 every-row : (rows : List Row) (d : Row) → So (table-test rows) → (i : ℕ) → i < length rows → RowHolds (getD rows i d)
 every-row [] d h i b = absurd (omega arith)

@@ -4,3 +4,5 @@ pub mod Settings
 pub mod Acceptance
 pub mod Adding
 pub mod AddedSetting
+pub mod AddedSum
+pub mod AddedProduct

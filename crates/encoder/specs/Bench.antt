@@ -2,26 +2,21 @@
 use Prim.Native.Nat.{_*_, _+_, _-_, suc, ℕ}
 use lib.Dec.{eqb}
 use lib.IntN.{negsuc, pos, ℤ}
-use lib.ListN.{getD, length, replicate}
+use lib.ListN.{replicate}
 use mathlib.Core.Bool.{Bool, _&&_, false, not, true}
 use mathlib.Core.List.{List, [], _∷_}
 use mathlib.Core.Path.{_≡_}
 use Rattle.arithmetic.specs.Bits.{testbit}
 use Rattle.arithmetic.specs.Integers.{down, up}
 use Rattle.sat.specs.Clause.{Clauses, sat}
-use Rattle.sat.specs.Encoded.{EncodedRule}
 use Rattle.sat.specs.Lit.{neg}
 use Rattle.norm_csp.specs.Domain.{IntVarRepresentation, binary, list, range}
-use Rattle.norm_csp.specs.Rules.{CmpOp, LinearTerm, eq}
-use Rattle.sat.specs.Size.{entries}
 use Rattle.clause_set.specs.Stores.{clauses-of, stores}
-use Rattle.log_var.specs.EncodeVarLog.{encode-var-log}
-use Rattle.log_var.specs.LogEncoding.{LogEncoding, no-encoding}
 use Rattle.log_var.specs.Record.{lits-of}
 use Rattle.encoder_env.specs.WellFormed.{encoding-at}
 use Rattle.encoder.specs.Calls.{open-outcome, setting-outcome}
 use Rattle.encoder.specs.Outcome.{Outcome}
-use Rattle.log_linear.specs.EncodeLinearLog.{encode-linear-log}
+use Rattle.encoder.specs.Sums.{linear-outcome}
 
 -- what stands for a bit: the switch literal c, its negation, or a new variable
 pub data BitLit : Type 0 where
@@ -40,9 +35,9 @@ pub record SettingRow : Type 0 where
 -- A sum over settings made before it, on a job without switches.
 pub record SumRow : Type 0 where
   pub settings : List IntVarRepresentation
-  pub op : CmpOp
+  pub op : ℕ
   pub constant : ℤ
-  pub terms : List LinearTerm
+  pub terms : List ℤ
   pub new-vars : ℕ
   pub clauses : ℕ
   pub literals : ℕ
@@ -72,10 +67,10 @@ bench =
     -- values 2/5: c, not c, c; no clause
     ∷ setting (record { repr = binary 0 (pos 2) (pos 5); bits = c ∷ not-c ∷ c ∷ []; offset = pos 0; new-vars = 0; clauses = 0; literals = 0; barred = [] })
     -- no terms, Eq: constant 0 no clause, 3 one empty clause
-    ∷ sum (record { settings = []; op = eq; constant = pos 0; terms = []; new-vars = 0; clauses = 0; literals = 0 })
-    ∷ sum (record { settings = []; op = eq; constant = pos 3; terms = []; new-vars = 0; clauses = 1; literals = 0 })
+    ∷ sum (record { settings = []; op = 0; constant = pos 0; terms = []; new-vars = 0; clauses = 0; literals = 0 })
+    ∷ sum (record { settings = []; op = 0; constant = pos 3; terms = []; new-vars = 0; clauses = 1; literals = 0 })
     -- setting 0..2, 2a + 1 Eq: one empty clause, no new variable
-    ∷ sum (record { settings = range (pos 0) (pos 2) ∷ []; op = eq; constant = pos 1; terms = record { var = 0; coef = pos 2 } ∷ []; new-vars = 0; clauses = 1; literals = 0 })
+    ∷ sum (record { settings = range (pos 0) (pos 2) ∷ []; op = 0; constant = pos 1; terms = pos 0 ∷ pos 2 ∷ []; new-vars = 0; clauses = 1; literals = 0 })
     ∷ []
 
 -- What a row states --------------------------------------------------------------------------------------------------
@@ -108,27 +103,23 @@ pub record SettingHolds (r : SettingRow) : Type 0 where
   pub literals-are : outcome-of r .env .literals ≡ r .literals
   pub barred-are : Barred (stored (outcome-of r)) (r .barred)
 
--- settings one after the other, from v variables on
-pub record Settings : Type 0 where
-  pub encodings : List LogEncoding
-  pub vars : ℕ
+-- settings one after the other
+abbrev pub with-settings : List IntVarRepresentation → Outcome → Outcome
+with-settings [] o = o
+with-settings (r ∷ rs) o = with-settings rs (setting-outcome (o .env) (o .lits) (o .ends) r)
 
-abbrev pub settings-from : List IntVarRepresentation → ℕ → Settings
-settings-from [] v = record { encodings = []; vars = v }
-settings-from (r ∷ rs) v =
-    let out = encode-var-log r v in
-    let rest = settings-from rs (out .vars) in
-    record { encodings = out .encoding ∷ rest .encodings; vars = rest .vars }
+-- the job and the stores before the row's call, and its outcome
+abbrev pub before-sum : SumRow → Outcome
+before-sum r = with-settings (r .settings) (open-outcome 0 (replicate 16 0) (replicate 8 0))
 
-abbrev pub sum-of : SumRow → EncodedRule
-sum-of r =
-    let made = settings-from (r .settings) 0 in
-    encode-linear-log (λ i. getD (made .encodings) i no-encoding) (r .op) (r .constant) (r .terms) (made .vars)
+abbrev pub sum-of : SumRow → Outcome
+sum-of r = let o = before-sum r in linear-outcome (o .env) (o .lits) (o .ends) (r .op) (r .constant) (r .terms)
 
 pub record SumHolds (r : SumRow) : Type 0 where
-  pub vars-are : sum-of r .vars ≡ settings-from (r .settings) 0 .vars + r .new-vars
-  pub clauses-are : length (sum-of r .clauses) ≡ r .clauses
-  pub literals-are : entries (sum-of r .clauses) ≡ r .literals
+  pub accepted : sum-of r .status ≡ 0
+  pub vars-are : sum-of r .env .variables ≡ before-sum r .env .variables + r .new-vars
+  pub clauses-are : sum-of r .env .clauses ≡ before-sum r .env .clauses + r .clauses
+  pub literals-are : sum-of r .env .literals ≡ before-sum r .env .literals + r .literals
 
 abbrev pub RowHolds : Row → Type 0
 RowHolds (setting r) = SettingHolds r
@@ -160,8 +151,11 @@ setting-test r =
 
 abbrev pub sum-test : SumRow → Bool
 sum-test r =
-    eqb (sum-of r .vars) (settings-from (r .settings) 0 .vars + r .new-vars)
-    && (eqb (length (sum-of r .clauses)) (r .clauses) && eqb (entries (sum-of r .clauses)) (r .literals))
+    let o = before-sum r in
+    let p = sum-of r in
+    eqb (p .status) 0
+    && (eqb (p .env .variables) (o .env .variables + r .new-vars)
+    && (eqb (p .env .clauses) (o .env .clauses + r .clauses) && eqb (p .env .literals) (o .env .literals + r .literals)))
 
 abbrev pub row-test : Row → Bool
 row-test (setting r) = setting-test r

@@ -1,6 +1,8 @@
-pub mod Bench
 pub mod Outcome
 pub mod Adding
 pub mod Calls
+pub mod Sums
+pub mod Products
 pub mod Encoded
 pub mod Sizes
+pub mod Bench

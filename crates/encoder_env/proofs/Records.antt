@@ -21,7 +21,7 @@ use Rattle.log_var.proofs.Bounds.{Recorded, codes-fit}
 use Rattle.log_var.specs.Record.{lit, lits-of, pad, record-of}
 use Rattle.log_var.specs.declared.LogEncoding.{LogEncoding as Encoding}
 use Rattle.encoder_env.specs.declared.EncoderEnv.{EncoderEnv}
-use Rattle.encoder_env.specs.WellFormed.{all-below, bounds-hold, encoding-at, encoding-holds, eqz, lit-fits, lits-fit, no-lit}
+use Rattle.encoder_env.specs.WellFormed.{all-below, bounds-hold, encoding-at, encoding-holds, eqz, is-spare, lit-fits, lits-fit, no-lit, record-holds}
 use Rattle.encoder_env.proofs.Kept.{Kept, all-at, holds-in-use, in-use}
 use Rattle.encoder_env.proofs.Tests.{both-l, both-r, eqz-refl, order-lez}
 
@@ -69,6 +69,17 @@ unfolding encoding-holds
 encoding-more v w e le h =
     let old : Bool = bounds-hold (e .low) (e .high) && eqz (e .offset) (offset-of (e .low)) && eqb (e .len) (bit-length (code (offset-of (e .low)) (e .high))) in
     rw (both-l old (lits-fit v (e .len) (e .lits)) h, lits-more v w (e .len) (e .lits) le (both-r old (lits-fit v (e .len) (e .lits)) h))
+
+-- the records of a job with more variables
+pub records-more : (env job : EncoderEnv) → job .count ≡ env .count → job .encodings ≡ env .encodings → env .variables ≤ job .variables
+    → all-below 32 (record-holds env) ≡ true → all-below 32 (record-holds job) ≡ true
+unfolding record-holds
+records-more env job c e v h = all-true (record-holds job) 32 (λ i k. rw (c, e) (go i (ltb i (env .count)) (all-at (record-holds env) 32 i h k)))
+  where
+    go : (i : ℕ) (t : Bool) → cond t (encoding-holds (env .variables) (encoding-at env i)) (is-spare (encoding-at env i)) ≡ true
+        → cond t (encoding-holds (job .variables) (encoding-at env i)) (is-spare (encoding-at env i)) ≡ true
+    go i true k = encoding-more (env .variables) (job .variables) (encoding-at env i) v k
+    go i false k = k
 
 -- A new record -------------------------------------------------------------------------------------------------------
 

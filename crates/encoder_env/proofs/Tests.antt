@@ -101,7 +101,7 @@ module _ (f : ℕ → Bool) where
 
 -- Bounds of a setting ------------------------------------------------------------------------------------------------
 
-lez-read : (x y : ℤ) → lez x y ≡ true → up x + down y ≤ up y + down x
+pub lez-read : (x y : ℤ) → lez x y ≡ true → up x + down y ≤ up y + down x
 unfolding lez
 lez-read (pos a) (pos b) h = omega (arith, leb-true a b h)
 lez-read (pos a) (negsuc b) h = absurd (false≢true h)

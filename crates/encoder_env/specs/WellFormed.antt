@@ -9,6 +9,8 @@ use mathlib.Core.List.{List, []}
 use Rattle.arithmetic.specs.Bits.{bit-length}
 use Rattle.arithmetic.specs.Offset.{code, offset-of}
 use Rattle.sat.specs.declared.Lit.{Lit}
+use Rattle.log_var.specs.LogEncoding.{LogEncoding as Setting}
+use Rattle.log_var.specs.Record.{encoding-of}
 use Rattle.log_var.specs.declared.LogEncoding.{LogEncoding}
 use Rattle.encoder_env.specs.declared.EncoderEnv.{EncoderEnv}
 
@@ -56,6 +58,10 @@ is-spare e = eqz (e .low) (pos 0) && eqz (e .high) (pos 0) && eqz (e .offset) (p
 -- record i of the job, which has 32
 abbrev pub encoding-at : EncoderEnv → ℕ → LogEncoding
 encoding-at env i = getD (env .encodings) i (record { lits = []; len = 0; low = pos 0; high = pos 0; offset = pos 0 })
+
+-- and the setting that it is
+abbrev pub int-map : EncoderEnv → ℕ → Setting
+int-map env i = encoding-of (encoding-at env i)
 
 unfoldable pub record-holds : EncoderEnv → ℕ → Bool
 record-holds env i = cond (ltb i (env .count)) (encoding-holds (env .variables) (encoding-at env i)) (is-spare (encoding-at env i))

@@ -22,15 +22,19 @@ use Rattle.log_var.proofs.Reading.{read-bytes-is}
 use Rattle.encoder_env.specs.WellFormed.{encoding-at}
 use Rattle.encoder_env.proofs.Kept.{Kept, kept}
 use Rattle.encoder_env.proofs.Records.{all-true, lits-known}
+use Rattle.encoder.specs.Encoded.{number}
 use Rattle.encoder.specs.Calls.{all-bits, clause-checks, clause-read, open-outcome, read-checks, setting-checks, setting-outcome, value-read, with-encoding}
-use Rattle.encoder.specs.Adding.{added, adding, space-for}
+use Rattle.encoder.specs.Adding.{added, adding, grown, space-for}
+use Rattle.encoder.specs.Products.{mul-checks, product-encoded}
+use Rattle.encoder.specs.Sums.{linear-checks, sum-encoded}
 use Rattle.encoder_env.specs.declared.EncoderEnv.{EncoderEnv}
 use Rattle.encoder.specs.Outcome.{Outcome, settled, status-of}
 use Rattle.encoder.proofs.Acceptance.{read-accepted}
 use Rattle.encoder.proofs.Statuses.{settled-accepted, settled-known, settled-refused}
 use Rattle.encoder_run.specs.Faithful.{Demand3, ExactlyOne, Faithful, ReadsBack, Satisfies, written}
-use Rattle.encoder_run.specs.Run.{Call, State, answered, book, clause, encode-binary, encode-list, encode-range, enter, feed, get-int-value, left, outcome, run}
-use Rattle.encoder_run.proofs.Invariant.{Invariant, number, number-agree, opened-invariant}
+use Rattle.encoder_run.specs.Run.{Call, State, answered, book, clause, encode-binary, encode-linear, encode-list, encode-mul, encode-range, enter, feed, get-int-value, left, outcome, run}
+use Rattle.encoder_run.proofs.Invariant.{Invariant, number-agree, opened-invariant}
+use Rattle.encoder_run.proofs.RuleKept.{product-kept, sum-kept}
 use Rattle.encoder_run.proofs.SettingKept.{setting-kept}
 
 -- the first n values of a function
@@ -74,7 +78,7 @@ module _ (s : State) (b : NormCsp) (cs : Clauses) (inv : Invariant s b cs) where
     read-status : (x : ℕ) → x < n → outcome s (get-int-value x bytes) .status ≡ 0
     read-status x h = read-accepted (s .env) (s .lits) (s .ends) x bytes (inv .well) (omega (arith, inv .count)) (is .long) (bits-pass bytes (is .bits))
 
-    read-value : (x : ℕ) → x < n → outcome s (get-int-value x bytes) .value ≡ number s (truth bytes) x
+    read-value : (x : ℕ) → x < n → outcome s (get-int-value x bytes) .value ≡ number (s .env) (truth bytes) x
     read-value x h =
         let e = encoding-at (s .env) x in
         let known : LitsBelow (length bytes) (lits-of e) = rw (is .long) (lits-known (s .env) (length (s .lits)) (length (s .ends)) x job (omega (arith, inv .count))) in
@@ -91,7 +95,7 @@ module _ (s : State) (b : NormCsp) (cs : Clauses) (inv : Invariant s b cs) where
         ap (all-hold bytes) (inv .held) ∙ all-hold-sat bytes cs (is .bits) below
 
     -- where the switches and numbers are those of a choice, the bytes read back as it
-    reads-back : (ch : Valuation) → Agree (b .switches) (truth bytes) (switch-of ch) → ((x : ℕ) → x < n → number s (truth bytes) x ≡ number-of ch x)
+    reads-back : (ch : Valuation) → Agree (b .switches) (truth bytes) (switch-of ch) → ((x : ℕ) → x < n → number (s .env) (truth bytes) x ≡ number-of ch x)
         → ReadsBack s b bytes ch
     reads-back ch same numbers =
         record {
@@ -105,18 +109,18 @@ module _ (s : State) (b : NormCsp) (cs : Clauses) (inv : Invariant s b cs) where
 
   -- the choice that an assignment reads as
   abbrev reading : Assignment → Valuation
-  reading α = record { switches = first (b .switches) α; numbers = first n (number s α) }
+  reading α = record { switches = first (b .switches) α; numbers = first n (number (s .env) α) }
 
   every : (bytes : List ℕ) → Satisfies s bytes → (ch : Valuation) × Meets b ch × ReadsBack s b bytes ch
   every bytes h =
       let α = truth bytes in
       let same : Agree (b .switches) α (switch-of (reading α)) = λ i k. sym (first-at (b .switches) α false i k) in
-      let numbers : (x : ℕ) → x < n → number s α x ≡ number-of (reading α) x = λ x k. sym (first-at n (number s α) (pos 0) x k) in (
+      let numbers : (x : ℕ) → x < n → number (s .env) α x ≡ number-of (reading α) x = λ x k. sym (first-at n (number (s .env) α) (pos 0) x k) in (
         reading α,
         record {
           all-switches = first-long (b .switches) α;
-          all-numbers = first-long n (number s α);
-          satisfied = satisfied-agree b α (switch-of (reading α)) (number s α) (number-of (reading α)) (inv .known) same numbers (inv .sound α (satisfied bytes h));
+          all-numbers = first-long n (number (s .env) α);
+          satisfied = satisfied-agree b α (switch-of (reading α)) (number (s .env) α) (number-of (reading α)) (inv .known) same numbers (inv .sound α (satisfied bytes h));
         },
         reads-back bytes (h .assigns) (reading α) same numbers,
       )
@@ -130,7 +134,7 @@ module _ (s : State) (b : NormCsp) (cs : Clauses) (inv : Invariant s b cs) where
       let holds : So (sat (truth bytes) cs) = subst So (sat-agree v β (truth bytes) agree cs (inv .below)) h in
       let same-switch : Agree (b .switches) (truth bytes) (switch-of ch) =
       λ i k. sym (agree i (omega (arith, inv .switches, job .switches-in))) ∙ sym (same i k) in
-      let same-number : (x : ℕ) → x < n → number s (truth bytes) x ≡ number-of ch x =
+      let same-number : (x : ℕ) → x < n → number (s .env) (truth bytes) x ≡ number-of ch x =
       λ x k. sym (number-agree s b cs inv β (truth bytes) agree x k) ∙ numbers x k in (
         bytes,
         (
@@ -188,6 +192,12 @@ call-refused : (s : State) (c : Call) → (outcome s c .status ≡ 0 → ⊥) �
 call-refused s (encode-range low high) h = setting-refused s (range low high) h
 call-refused s (encode-list ks) h = setting-refused s (list ks) h
 call-refused s (encode-binary c f t) h = setting-refused s (binary c f t) h
+call-refused s (encode-linear op constant terms) h =
+    let out = sum-encoded (s .env) op constant terms in
+    adding-refused s (status-of (linear-checks (s .env) (length (s .lits)) (length (s .ends)) op constant terms)) (out .clauses) (grown (s .env) (out .vars) (out .clauses)) h
+call-refused s (encode-mul x y m) h =
+    let out = product-encoded (s .env) x y m in
+    adding-refused s (status-of (mul-checks (s .env) (length (s .lits)) (length (s .ends)) x y m)) (out .clauses) (grown (s .env) (out .vars) (out .clauses)) h
 call-refused s (get-int-value x bytes) h = reading-left s x bytes
 call-refused s (clause k) h = clause-left s k
 
@@ -195,6 +205,8 @@ call-accepted : (s : State) (b : NormCsp) (cs : Clauses) → Invariant s b cs �
 call-accepted s b cs inv (encode-range low high) h = setting-kept s b cs inv (range low high) h
 call-accepted s b cs inv (encode-list ks) h = setting-kept s b cs inv (list ks) h
 call-accepted s b cs inv (encode-binary c f t) h = setting-kept s b cs inv (binary c f t) h
+call-accepted s b cs inv (encode-linear op constant terms) h = sum-kept s b cs inv op constant terms h
+call-accepted s b cs inv (encode-mul x y m) h = product-kept s b cs inv x y m h
 call-accepted s b cs inv (get-int-value x bytes) h = (cs, subst (λ (t : State). Invariant t b cs) (sym (reading-left s x bytes)) inv)
 call-accepted s b cs inv (clause k) h = (cs, subst (λ (t : State). Invariant t b cs) (sym (clause-left s k)) inv)
 

@@ -19,23 +19,19 @@ use Rattle.clause_set.proofs.Adding.{count-after, used-after}
 use Rattle.clause_set.proofs.ReadBack.{read-back}
 use Rattle.norm_csp.specs.NormCsp.{NormCsp, Satisfied, begun}
 use Rattle.norm_csp.proofs.NormCsp.{Known}
-use Rattle.log_var.specs.LogEncoding.{get-int-value}
-use Rattle.log_var.specs.Record.{encoding-of, lits-of}
+use Rattle.log_var.specs.Record.{lits-of}
 use Rattle.encoder_env.specs.WellFormed.{all-below, encoding-at, eqz, is-spare, record-holds, well-formed}
 use Rattle.encoder_env.proofs.Kept.{kept, well-formed-of}
 use Rattle.encoder_env.proofs.Records.{lits-known}
 use Rattle.encoder_env.proofs.Tests.{both}
 use Rattle.encoder_env.specs.declared.EncoderEnv.{EncoderEnv}
 use Rattle.encoder.proofs.Adding.{Accepted}
+use Rattle.encoder.specs.Encoded.{number}
 use Rattle.encoder.specs.Calls.{open-checks, open-outcome, opened}
 use Rattle.encoder.specs.Outcome.{Outcome, status-of}
 use Rattle.encoder.proofs.Statuses.{passed, settled-known}
 use Rattle.encoder_run.specs.Faithful.{stores-of, written}
 use Rattle.encoder_run.specs.Run.{State, left}
-
--- the number that setting x reads as
-abbrev pub number : State → Assignment → ℕ → ℤ
-number s α x = get-int-value α (encoding-of (encoding-at (s .env) x))
 
 -- The stores hold the clauses cs; these are satisfied where the switches and the numbers read meet the book, and every choice that meets
 -- it comes about in one way.
@@ -48,15 +44,15 @@ pub record Invariant (s : State) (b : NormCsp) (cs : Clauses) : Type 0 where
   pub switches : s .env .switches ≡ b .switches
   pub count : s .env .count ≡ length (b .vars)
   pub known : Known b
-  pub sound : (α : Assignment) → So (sat α cs) → Satisfied b α (number s α)
+  pub sound : (α : Assignment) → So (sat α cs) → Satisfied b α (number (s .env) α)
   pub complete : (α : Assignment) (f : ℕ → ℤ) → Satisfied b α f
-      → (β : Assignment) × Agree (b .switches) α β × So (sat β cs) × ((x : ℕ) → x < length (b .vars) → number s β x ≡ f x)
+      → (β : Assignment) × Agree (b .switches) α β × So (sat β cs) × ((x : ℕ) → x < length (b .vars) → number (s .env) β x ≡ f x)
   pub unique : (α β : Assignment) → So (sat α cs) → So (sat β cs) → Agree (b .switches) α β
-      → ((x : ℕ) → x < length (b .vars) → number s α x ≡ number s β x) → Agree (s .env .variables) α β
+      → ((x : ℕ) → x < length (b .vars) → number (s .env) α x ≡ number (s .env) β x) → Agree (s .env .variables) α β
 
 -- assignments that agree on the job's variables read as the same numbers
 pub number-agree : (s : State) (b : NormCsp) (cs : Clauses) → Invariant s b cs → (α β : Assignment) → Agree (s .env .variables) α β
-    → (x : ℕ) → x < length (b .vars) → number s α x ≡ number s β x
+    → (x : ℕ) → x < length (b .vars) → number (s .env) α x ≡ number (s .env) β x
 number-agree s b cs inv α β h x lt =
     let e = encoding-at (s .env) x in
     let k = kept (s .env) (length (s .lits)) (length (s .ends)) (inv .well) in

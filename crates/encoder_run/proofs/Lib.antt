@@ -1,3 +1,4 @@
 pub mod Invariant
 pub mod SettingKept
+pub mod RuleKept
 pub mod Faithful

@@ -21,11 +21,12 @@ use Rattle.log_var.specs.LogEncoding.{get-int-value}
 use Rattle.log_var.specs.Record.{encoding-of, record-of}
 use Rattle.log_var.specs.declared.LogEncoding.{LogEncoding as Encoding}
 use Rattle.log_var.proofs.Reading.{encoding-back}
+use Rattle.encoder.specs.Encoded.{number}
 use Rattle.encoder.specs.Calls.{setting-outcome, with-encoding}
 use Rattle.encoder.specs.Outcome.{Outcome}
 use Rattle.encoder.proofs.AddedSetting.{Added, added, encodes, new-record, old-record, setting-well-formed}
 use Rattle.encoder_run.specs.Run.{State, left}
-use Rattle.encoder_run.proofs.Invariant.{Invariant, after-adding, more-written, number, number-agree}
+use Rattle.encoder_run.proofs.Invariant.{Invariant, after-adding, more-written, number-agree}
 
 module _ (s : State) (b : NormCsp) (cs : Clauses) (inv : Invariant s b cs) (repr : IntVarRepresentation) (a : Added (s .env) (s .lits) (s .ends) repr) where
   abbrev v : ℕ
@@ -48,13 +49,13 @@ module _ (s : State) (b : NormCsp) (cs : Clauses) (inv : Invariant s b cs) (repr
 
   -- the numbers read ---------------------------------------------------------------------------------------------------
 
-  old-number : (α : Assignment) (x : ℕ) → x < n → number s α x ≡ number next α x
+  old-number : (α : Assignment) (x : ℕ) → x < n → number (s .env) α x ≡ number (next .env) α x
   old-number α x h =
       ap (λ (e : Encoding). get-int-value α (encoding-of e)) (sym (old-record (s .env) (s .lits) (s .ends) repr a (inv .long) x (λ e. omega (arith, inv .count))))
 
-  new-number : (α : Assignment) → get-int-value α (out .encoding) ≡ number next α n
+  new-number : (α : Assignment) → get-int-value α (out .encoding) ≡ number (next .env) α n
   new-number α =
-      sym (ap (λ (x : ℕ). number next α x) (sym (inv .count))
+      sym (ap (λ (x : ℕ). number (next .env) α x) (sym (inv .count))
       ∙ ap (λ (e : Encoding). get-int-value α (encoding-of e)) (new-record (s .env) (s .lits) (s .ends) repr a (inv .long))
       ∙ ap (get-int-value α) (encoding-back (out .encoding)))
 
@@ -67,15 +68,15 @@ module _ (s : State) (b : NormCsp) (cs : Clauses) (inv : Invariant s b cs) (repr
 
   -- what the clauses say -----------------------------------------------------------------------------------------------
 
-  sound-more : (α : Assignment) → So (sat α (cs ++ ds)) → Satisfied (add-var repr b) α (number next α)
+  sound-more : (α : Assignment) → So (sat α (cs ++ ds)) → Satisfied (add-var repr b) α (number (next .env) α)
   sound-more α h =
       let k = sat-both α cs ds .0 h in
-      one-more b repr α (number next α)
-      (satisfied-agree b α α (number s α) (number next α) (inv .known) (λ x _. refl) (old-number α) (inv .sound α (k .0)))
+      one-more b repr α (number (next .env) α)
+      (satisfied-agree b α α (number (s .env) α) (number (next .env) α) (inv .known) (λ x _. refl) (old-number α) (inv .sound α (k .0)))
       (subst (IsValue α repr) (new-number α) (says .admits α .0 (k .1)))
 
   complete-more : (α : Assignment) (f : ℕ → ℤ) → Satisfied (add-var repr b) α f
-      → (γ : Assignment) × Agree (b .switches) α γ × So (sat γ (cs ++ ds)) × ((x : ℕ) → x < length (add-var repr b .vars) → number next γ x ≡ f x)
+      → (γ : Assignment) × Agree (b .switches) α γ × So (sat γ (cs ++ ds)) × ((x : ℕ) → x < length (add-var repr b .vars) → number (next .env) γ x ≡ f x)
   complete-more α f h =
       let (old, new) = one-less b repr α f h in
       let (β, same, k, numbers) = inv .complete α f old in
@@ -90,8 +91,8 @@ module _ (s : State) (b : NormCsp) (cs : Clauses) (inv : Invariant s b cs) (repr
         λ x lt. read β γ agree e numbers x lt (eqb x n) refl,
       )
     where
-      read : (β γ : Assignment) → Agree v β γ → get-int-value γ (out .encoding) ≡ f n → ((x : ℕ) → x < n → number s β x ≡ f x)
-          → (x : ℕ) → x < length (add-var repr b .vars) → (t : Bool) → eqb x n ≡ t → number next γ x ≡ f x
+      read : (β γ : Assignment) → Agree v β γ → get-int-value γ (out .encoding) ≡ f n → ((x : ℕ) → x < n → number (s .env) β x ≡ f x)
+          → (x : ℕ) → x < length (add-var repr b .vars) → (t : Bool) → eqb x n ≡ t → number (next .env) γ x ≡ f x
       read β γ agree e numbers x lt true t = let i = eqb-true x n t in rw i (sym (new-number γ) ∙ e)
       read β γ agree e numbers x lt false t =
           let i = eqb-false x n t in
@@ -99,7 +100,7 @@ module _ (s : State) (b : NormCsp) (cs : Clauses) (inv : Invariant s b cs) (repr
           sym (old-number γ x under) ∙ sym (number-agree s b cs inv β γ agree x under) ∙ numbers x under
 
   unique-more : (α β : Assignment) → So (sat α (cs ++ ds)) → So (sat β (cs ++ ds)) → Agree (b .switches) α β
-      → ((x : ℕ) → x < length (add-var repr b .vars) → number next α x ≡ number next β x) → Agree (out .vars) α β
+      → ((x : ℕ) → x < length (add-var repr b .vars) → number (next .env) α x ≡ number (next .env) β x) → Agree (out .vars) α β
   unique-more α β h k same numbers =
       let agree = inv .unique α β (sat-both α cs ds .0 h .0) (sat-both β cs ds .0 k .0) same (λ x lt. old-number α x lt ∙ numbers x (omega (arith, vars-more b repr)) ∙ sym (old-number β x lt)) in
       says .unique α β agree (new-number α ∙ numbers n (omega (arith, vars-more b repr)) ∙ sym (new-number β))

@@ -5,16 +5,21 @@ use lib.IntN.{ℤ}
 use mathlib.Core.Bool.{cond}
 use mathlib.Core.List.{List, [], _∷_}
 use Rattle.norm_csp.specs.Domain.{binary, list, range}
-use Rattle.norm_csp.specs.NormCsp.{NormCsp, add-var}
+use Rattle.norm_csp.specs.NormCsp.{NormCsp, add-constraint, add-var, linear, mul}
+use Rattle.norm_csp.specs.Rules.{op-of, terms-of}
 use Rattle.encoder_env.specs.declared.EncoderEnv.{EncoderEnv}
 use Rattle.encoder.specs.Calls.{clause-outcome, read-outcome, setting-outcome}
 use Rattle.encoder.specs.Outcome.{Outcome}
+use Rattle.encoder.specs.Products.{mul-outcome}
+use Rattle.encoder.specs.Sums.{linear-outcome}
 
 -- a call's arguments other than the job and the stores
 pub data Call : Type 0 where
   encode-range : ℤ → ℤ → Call
   encode-list : List ℤ → Call
   encode-binary : ℕ → ℤ → ℤ → Call
+  encode-linear : ℕ → ℤ → List ℤ → Call
+  encode-mul : ℕ → ℕ → ℕ → Call
   get-int-value : ℕ → List ℕ → Call
   clause : ℕ → Call
 
@@ -35,6 +40,8 @@ abbrev pub outcome : State → Call → Outcome
 outcome s (encode-range low high) = setting-outcome (s .env) (s .lits) (s .ends) (range low high)
 outcome s (encode-list ks) = setting-outcome (s .env) (s .lits) (s .ends) (list ks)
 outcome s (encode-binary c f t) = setting-outcome (s .env) (s .lits) (s .ends) (binary c f t)
+outcome s (encode-linear op constant terms) = linear-outcome (s .env) (s .lits) (s .ends) op constant terms
+outcome s (encode-mul x y m) = mul-outcome (s .env) (s .lits) (s .ends) x y m
 outcome s (get-int-value x assignment) = read-outcome (s .env) (s .lits) (s .ends) x assignment
 outcome s (clause k) = clause-outcome (s .env) (s .lits) (s .ends) k
 
@@ -55,11 +62,13 @@ abbrev pub answered : State → List Call → List Answered
 answered s [] = []
 answered s (c ∷ cs) = record { call = c; status = outcome s c .status } ∷ answered (left (outcome s c)) cs
 
--- an accepted setting call adds that setting; a reading and a clause call add nothing
+-- an accepted setting call adds that setting, an accepted sum or product that rule; a reading and a clause call add nothing
 abbrev pub enter : Call → NormCsp → NormCsp
 enter (encode-range low high) b = add-var (range low high) b
 enter (encode-list ks) b = add-var (list ks) b
 enter (encode-binary c f t) b = add-var (binary c f t) b
+enter (encode-linear op constant terms) b = add-constraint (linear (op-of op) constant (terms-of terms)) b
+enter (encode-mul x y m) b = add-constraint (mul x y m) b
 enter (get-int-value x assignment) b = b
 enter (clause k) b = b
 

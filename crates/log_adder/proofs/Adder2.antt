@@ -1,6 +1,6 @@
 -- The clauses of Eq's adder hold exactly where its columns reach their number, dead ends included (`adder2-encodes`,
 -- `eq-adder-encodes`).
-use Prim.Native.Nat.{_%_, _*_, _+_, _/_, _≤_, min, ℕ}
+use Prim.Native.Nat.{_%_, _*_, _+_, _-_, _/_, _≤_, min, ℕ}
 use borrow.Author.Tests.{eqb-false, eqb-true, leb-false, leb-true}
 use lib.Dec.{eqb, leb, ltb}
 use lib.ListN.{length}
@@ -24,7 +24,7 @@ use Rattle.sat.proofs.Gate.{check}
 use Rattle.sat.proofs.Lits.{neg-below, negs-below}
 use Rattle.mixed.proofs.Below.{Terms, bounded-below, singles-below}
 use Rattle.mixed.proofs.Flip.{flip-below}
-use Rattle.log_adder.specs.Adder2.{Adder2Output, EqColumn, LastColumn, adder2, adder2-clauses, dead-end, eq-adder, eq-carry-size, eq-column, eq-column-ge, eq-column-le, eq-columns, eq-ge-terms, eq-le-terms, eq-target, eq-value, last-column, ordering, prepend, returned-set}
+use Rattle.log_adder.specs.Adder2.{Adder2Output, EqColumn, LastColumn, NewCarry, adder2, adder2-clauses, column-and-rest, eq-adder, eq-column, eq-column-ge, eq-column-le, eq-columns, eq-ge-terms, eq-le-terms, eq-target, eq-value, last-column, ordering, prepend, returned-set, unless-dead}
 use Rattle.log_adder.specs.Gather.{Grid, GridBelow, grid-value}
 use Rattle.log_adder.proofs.EqColumn.{eq-column-sat, ordering-sat}
 
@@ -44,6 +44,10 @@ ordering-below : (v : ℕ) (ls : List ℕ) → LitsBelow v ls → ClausesBelow v
 ordering-below v [] b = tt
 ordering-below v (l ∷ []) b = tt
 ordering-below v (l ∷ m ∷ ls) b = ((b .0, (neg-below v m (b .1 .0), tt)), ordering-below v (m ∷ ls) (b .1))
+
+-- how many variables the outgoing carry has
+abbrev eq-carry-size : EqColumn → List ℕ → ℕ
+eq-carry-size col carry = (length (col .own) + length carry - col .target) / 2
 
 module _ (col : EqColumn) (carry : List ℕ) (v : ℕ) (o : LitsBelow v (col .own)) (k : LitsBelow v carry)
     (bit-ok : col .target ≤ 1) (alive : col .target ≤ length (col .own) + length carry) where
@@ -170,17 +174,18 @@ adder2-encodes (col ∷ cols) last carry v b e k =
     S : Assignment → Type 0
     S α = count α carry + (count α (col .own) + 2 * eq-value α cols last) ≡ col .target + 2 * eq-target cols last
 
-    here : Adder2Output
-    here =
-        record {
-          sent = ordering (fresh n′ v) ++ rest .sent;
-          returned = prepend (eq-column (col .own) carry 0 (fresh n′ v) (col .target)) (rest .returned);
-          vars = rest .vars;
-        }
+    next : NewCarry
+    next = record { lits = fresh n′ v; vars = v + n′ }
+
+    here : NewCarry → Adder2Output
+    here c = column-and-rest (c .lits) (eq-column (col .own) carry 0 (c .lits) (col .target)) (adder2 cols last (c .lits) (c .vars))
+
+    out : Bool → Adder2Output
+    out t = unless-dead (cond t (some next) none) v here
 
     go : (t : Bool) → leb (col .target) (length (col .own) + length carry) ≡ t
         → Encodes (v + n′) (rest .vars) (λ α. Monotone α (fresh n′ v)) (λ α. count α (fresh n′ v) + eq-value α cols last ≡ eq-target cols last) (adder2-clauses rest)
-        → Encodes v ((cond t here (dead-end v)) .vars) (λ α. Monotone α carry) S (adder2-clauses (cond t here (dead-end v)))
+        → Encodes v (out t .vars) (λ α. Monotone α carry) S (adder2-clauses (out t))
     go true q ih =
         let alive : col .target ≤ length (col .own) + length carry = leb-true _ _ q in
         let whole : Encodes v (rest .vars) (λ α. Monotone α carry) S
@@ -190,7 +195,7 @@ adder2-encodes (col ∷ cols) last carry v b e k =
         (λ α β g s. omega (arith, total-agree col carry v (b .0 .0) k (b .0 .1) alive α β g, eq-value-agree v α β g cols last (b .1) e))
         (λ α f s. omega (arith, b .0 .1))
         (λ α f h. let a = meaning col carry v (b .0 .0) k (b .0 .1) alive α f .0 h in (a .0, omega arith)) in
-        relist (adder2-clauses here) (shuffle-sat (ordering (fresh n′ v)) (eq-column (col .own) carry 0 (fresh n′ v) (col .target)) (rest .sent) (rest .returned))
+        relist (adder2-clauses (here next)) (shuffle-sat (ordering (fresh n′ v)) (eq-column (col .own) carry 0 (fresh n′ v) (col .target)) (rest .sent) (rest .returned))
         (shuffle-below (ordering (fresh n′ v)) (eq-column (col .own) carry 0 (fresh n′ v) (col .target)) (rest .sent) (rest .vars) (rest .returned) (whole .below))
         whole
     go false q ih =

@@ -1,6 +1,6 @@
 -- The invariants of the adder's two loops: to go on from here comes to what the whole would have given from the start.
 use mathlib.Core.Path.{_≡_, refl, ap, sym, _∙_}
-use mathlib.Core.Bool.{Bool, true, false, not}
+use mathlib.Core.Bool.{false}
 use mathlib.Core.List.{List, [], _∷_, map}
 use Prim.Native.Nat.{ℕ, _+_, _-_, _/_, _%_, _≤_, _<_}
 use native.Mathlib.Nat.{sub-zero}
@@ -17,8 +17,9 @@ use Rattle.clause_set.proofs.Adding.{count-after, used-after}
 use Rattle.sat.specs.Encoded.{EncodedBits}
 use Rattle.log_adder.specs.Adder.{adder, extend, tail}
 use Rattle.log_adder.specs.ColumnInfo.{lit, num, range-lits}
-use Rattle.log_adder.specs.AdderState.{AdderAdded, AdderCounted, ColumnAdded, InBounds, Outcome, carry-count, given-lits, heights-fit, input-all, input-columns, outcome, state-bits, then}
-use Rattle.log_adder.proofs.ColumnsLeft.{add-column-then, adder-end, adder-step, extend-end, extend-step, given-result, given-tail, given-vars, heights-end, heights-step, heights-tall, then-no-more}
+use Rattle.log_adder.specs.AdderState.{AdderAdded, AdderCounted, ColumnAdded, InBounds, Outcome, adder-output, carry-count, input-columns, outcome, state-bits, then}
+use Rattle.log_adder.proofs.ColumnsLeft.{add-column-then, adder-end, adder-step, extend-end, extend-step, given-result, given-tail, given-vars, then-no-more}
+use Rattle.log_adder.proofs.Heights.{column-fits, fits-step, tall-from}
 
 -- The columns --------------------------------------------------------------------------------------------------
 
@@ -40,17 +41,22 @@ module _ (cols : List (List Lit)) (counts : List ℕ) (given : List Lit) (g widt
     pub len : s .len ≡ i
     pub lits-long : length d ≡ length d₀
     pub ends-long : length e ≡ length e₀
-    pub heights : heights-fit width 0 counts k₀ (s₀ .carry .count) ≡ heights-fit (width - i) i counts k (s .carry .count)
+    pub fits : tall-from counts (width - i) i k (s .carry .count) ≡ false
     pub same : then (after d₀ e₀ (s₀ .used)) (state-bits s₀) (adder (input-columns width 0 cols counts k₀) (range-lits (s₀ .carry)) gs (s₀ .vars)) ≡ then (after d e (s .used)) (state-bits s) (coming i k s)
 
-  pub going-start : (d e : List ℕ) (s : AdderState) (k : ℕ) → InBounds s → s .len ≡ 0 → Going d e s k d e s k 0
-  going-start d e s k z h =
-      record { within = omega arith; steady = z; len = h; lits-long = refl; ends-long = refl; heights = rw (sub-zero width); same = rw (sub-zero width) }
+  pub going-start : (d e : List ℕ) (s : AdderState) (k : ℕ) → tall-from counts width 0 k (s .carry .count) ≡ false → InBounds s → s .len ≡ 0
+      → Going d e s k d e s k 0
+  going-start d e s k f z h =
+      record { within = omega arith; steady = z; len = h; lits-long = refl; ends-long = refl; fits = rw (sub-zero width) f; same = rw (sub-zero width) }
 
   module _ {d₀ e₀ : List ℕ} {s₀ : AdderState} {k₀ : ℕ} {d e : List ℕ} {s : AdderState} {k i : ℕ} (go : Going d₀ e₀ s₀ k₀ d e s k i) where
-    pub going-turn : i < width → getD counts i 0 + s .carry .count ≤ 12 → g ≤ length given → (d′ e′ : List ℕ) (r : AdderState)
+    pub going-high : i < width → getD counts i 0 + s .carry .count ≤ 12
+    going-high h = column-fits counts (width - i) i k (s .carry .count) (omega arith) (go .fits)
+
+    pub going-turn : i < width → g ≤ length given → (d′ e′ : List ℕ) (r : AdderState)
         → length d′ ≡ length d → length e′ ≡ length e → ColumnAdded d e (column-at i k) s d′ e′ r → Going d₀ e₀ s₀ k₀ d′ e′ r (k / 2) (i + 1)
-    going-turn h high long d′ e′ r p q t =
+    going-turn h long d′ e′ r p q t =
+        let high = going-high h in
         let n : width - i - 1 ≡ width - (i + 1) = omega arith in
         let size : (k % 2 + getD counts i 0 + s .carry .count) / 2 ≡ r .carry .count = sym (ap (λ x. x .count) (t .carry)) in
         record {
@@ -59,26 +65,20 @@ module _ (cols : List (List Lit)) (counts : List ℕ) (given : List Lit) (g widt
           len = t .len ∙ ap (λ (x : ℕ). x + 1) (go .len);
           lits-long = p ∙ go .lits-long;
           ends-long = q ∙ go .ends-long;
-          heights = go .heights ∙ heights-step cols counts (width - i) i k (s .carry .count) (omega arith) high
-              ∙ (λ j. heights-fit (n j) (i + 1) counts (k / 2) (size j));
+          fits = (λ j. tall-from counts (sym n j) (i + 1) (k / 2) (sym size j))
+              ∙ sym (fits-step counts (width - i) i k (s .carry .count) (omega arith) high) ∙ go .fits;
           same = go .same
               ∙ ap (then (after d e (s .used)) (state-bits s)) (adder-step cols counts (width - i) i k (range-lits (s .carry)) (drop i gs) (s .vars) (omega arith))
               ∙ add-column-then t (omega arith) (drop i gs) (given-result given g long i (s .vars + carry-count (column-at i k) s)) (given-vars given g long i (s .vars + carry-count (column-at i k) s)) (λ next x. adder (input-columns (width - i - 1) (i + 1) cols counts (k / 2)) next (tail (drop i gs)) x)
               ∙ (λ j. then (after d′ e′ (r .used)) (state-bits r) (adder (input-columns (n j) (i + 1) cols counts (k / 2)) (range-lits (r .carry)) (given-tail given g long i j) (r .vars)));
         }
 
-    pub going-tall : i < width → 12 < getD counts i 0 + s .carry .count → true ≡ not (heights-fit width 0 counts k₀ (s₀ .carry .count))
-    going-tall h high = rw (go .heights, heights-tall cols counts (width - i) i k (s .carry .count) (omega arith) high)
-
-    pub going-fits : width ≤ i → false ≡ not (heights-fit width 0 counts k₀ (s₀ .carry .count))
-    going-fits h = rw (go .heights, heights-end cols counts (width - i) i k (s .carry .count) (omega arith))
-
     pub going-end : width ≤ i
         → then (after d₀ e₀ (s₀ .used)) (state-bits s₀) (adder (input-columns width 0 cols counts k₀) (range-lits (s₀ .carry)) gs (s₀ .vars))
         ≡ then (after d e (s .used)) (state-bits s) (extend (s .carry .count) (range-lits (s .carry)) (s .vars))
     going-end h = go .same ∙ ap (then (after d e (s .used)) (state-bits s)) (adder-end cols counts (width - i) i k (s .carry) (drop i gs) (s .vars) (omega arith))
 
--- The carry-size past the columns ------------------------------------------------------------------------------
+-- Past the columns, as long as there is a carry -----------------------------------------------------------------
 
 -- no literals of its own
 abbrev pub empty-input : ColumnInput
@@ -141,9 +141,6 @@ module _ {d₀ e₀ : List ℕ} {s₀ : AdderState} {d e : List ℕ} {s : AdderS
       then-no-more (after d e (s .used)) (state-bits s) (s .vars)
       ∙ sym (go .same ∙ ap (then (after d e (s .used)) (state-bits s)) (extend-end (s₀ .len + s₀ .carry .count - s .len) (s .carry) (s .vars) (omega arith)))
 
-pub not-both : (b : Bool) → b ≡ true → b ≡ false → ⊥
-not-both b p q = let z : _≡_ {A = ℕ} 0 1 = cc in omega arith
-
 -- Counting -----------------------------------------------------------------------------------------------------------
 
 pub no-length : (l : List ℕ) → length l ≡ 0 → l ≡ []
@@ -154,14 +151,12 @@ no-length (x ∷ xs) e = absurd (omega arith)
 pub counted : {d e : List ℕ} (cols : List (List Lit)) (counts : List ℕ) (given : List Lit) (p : AdderInput) (v : ℕ) (a : Counts) {d′ e′ : List ℕ} (r : AdderState)
     → AdderAdded d e cols counts given p v a d′ e′ r → AdderCounted cols counts given p v a r
 counted {d} {e} cols counts given p v a r w =
+    let cs : List (List ℕ) = adder-output cols counts given p v .clauses in
     record {
-      tall = w .tall;
-      done = λ f.
-          let sum : EncodedBits = adder (input-all cols counts p) [] (given-lits p given) v in
-          let o = w .done f .0 in (
-            ap (λ (x : Outcome). x .stores .used) o ∙ used-after 0 (sum .clauses) (after d e a),
-            ap (λ (x : Outcome). x .stores .count) o ∙ count-after 0 (sum .clauses) (after d e a),
-            ap (λ (x : Outcome). x .bits) o,
-            ap (λ (x : Outcome). x .vars) o,
-          );
+      lits = ap (λ (x : Outcome). x .stores .used) (w .done) ∙ used-after 0 cs (after d e a);
+      clauses = ap (λ (x : Outcome). x .stores .count) (w .done) ∙ count-after 0 cs (after d e a);
+      bits = ap (λ (x : Outcome). x .bits) (w .done);
+      vars = ap (λ (x : Outcome). x .vars) (w .done);
+      steady = w .steady;
+      len = w .len;
     }

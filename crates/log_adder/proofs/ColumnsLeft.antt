@@ -6,7 +6,7 @@ use Prim.Native.Nat.{ℕ, zero, suc, _+_, _-_, _*_, _/_, _%_, _≤_, _<_}
 use native.Mathlib.Nat.{not-suc-le-zero}
 use native.Mathlib.Numerals.{add-one, sub-one}
 use native.Mathlib.Omega.{arith}
-use borrow.Author.Tests.{ltb-true, ltb-false, le-leb, lt-leb}
+use borrow.Author.Tests.{ltb-true, ltb-false}
 use lib.Dec.{ltb}
 use lib.ListN.{length, take, drop, getD, length-map, length-take, drop-of-length-le}
 use lib.Seq.{drop-cons, getD-take}
@@ -21,7 +21,7 @@ use Rattle.log_adder.specs.Adder.{AdderColumn, add-column, adder, carry-
 use Rattle.sat.specs.Encoded.{EncodedBits}
 use Rattle.sat.specs.Fresh.{fresh}
 use Rattle.log_adder.specs.ColumnInfo.{column-clauses, lit, num, range-lits}
-use Rattle.log_adder.specs.AdderState.{ColumnAdded, carry-count, column-info, heights-fit, input-columns, result-count, result-lit, state-bits, then}
+use Rattle.log_adder.specs.AdderState.{ColumnAdded, carry-count, column-info, input-columns, result-count, result-lit, state-bits, then}
 use Rattle.sat.proofs.Fresh.{length-fresh}
 
 abbrev pub adder-column : ColumnInput → AdderColumn
@@ -70,19 +70,6 @@ module _ (cols : List (List Lit)) (counts : List ℕ) where
   pub adder-end : (w i k : ℕ) (p : VarRange) (rs : List ℕ) (v : ℕ) → w ≤ 0 → adder (input-columns w i cols counts k) (range-lits p) rs v ≡ extend (p .count) (range-lits p) v
   adder-end zero i k p rs v h = ap (λ (f : ℕ). extend f (range-lits p) v) (length-fresh (p .count) (p .first .0))
   adder-end (suc w) i k p rs v h = absurd (not-suc-le-zero h)
-
-  pub heights-step : (w i k c : ℕ) → 0 < w → getD counts i 0 + c ≤ 12
-      → heights-fit w i counts k c ≡ heights-fit (w - 1) (i + 1) counts (k / 2) ((k % 2 + getD counts i 0 + c) / 2)
-  heights-step zero i k c z h = absurd (not-suc-le-zero z)
-  heights-step (suc w) i k c z h = rw (le-leb (getD counts i 0 + c) 12 h, sub-one (suc w))
-
-  pub heights-tall : (w i k c : ℕ) → 0 < w → 12 < getD counts i 0 + c → heights-fit w i counts k c ≡ false
-  heights-tall zero i k c z h = absurd (not-suc-le-zero z)
-  heights-tall (suc w) i k c z h = rw (lt-leb (getD counts i 0 + c) 12 h)
-
-  pub heights-end : (w i k c : ℕ) → w ≤ 0 → heights-fit w i counts k c ≡ true
-  heights-end zero i k c h = refl
-  heights-end (suc w) i k c h = absurd (not-suc-le-zero h)
 
 -- The results that are given -----------------------------------------------------------------------------------------
 

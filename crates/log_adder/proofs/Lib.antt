@@ -6,6 +6,7 @@ pub mod Adder2
 pub mod MinusTwice
 pub mod Plain
 pub mod Size
+pub mod Heights
 pub mod ColumnTerms
 pub mod ColumnWritten
 pub mod OneColumn

@@ -60,7 +60,7 @@ module _ (c : ColumnInput) (s : AdderState) (z : InBounds s) (y : ColumnReady c 
       → (d₁ e₁ : List ℕ) (w : Counts) → after d₁ e₁ w ≡ add-clauses (s .used .lits) (column-clauses (info-at c s l)) (stores (tail d f) (tail e g) 0 0)
       → (v : ℕ) → (v ≡ result-count (c .given) (s .vars + carry-count c s)) → s .vars + carry-count c s ≤ v → v ≤ s .vars + carry-count c s + 1
       → ColumnAdded d e c s (putMid f (length d - f) d d₁) (putMid g (length e - g) e e₁)
-      (record { bits = set (s .bits) (s .len) l; len = s .len + 1; vars = v; carry = next-carry c s; used = record { clauses = s .used .clauses + w .clauses; lits = s .used .lits + w .lits }; tall = false })
+      (record { bits = set (s .bits) (s .len) l; len = s .len + 1; vars = v; carry = next-carry c s; used = record { clauses = s .used .clauses + w .clauses; lits = s .used .lits + w .lits } })
   column-added own d e f g p q d₁ e₁ w k v u low up =
       record {
         stores = lent-added d e (s .used) 0 f g p q (column-clauses (info-at c s l)) (s .used .lits) d₁ e₁ w (omega arith) k
@@ -72,7 +72,6 @@ module _ (c : ColumnInput) (s : AdderState) (z : InBounds s) (y : ColumnReady c 
         wide = own;
         steady =
             record {
-              not-tall = refl;
               long = length-set (s .bits) (s .len) l ∙ z .long;
               vars = omega (arith, y, z);
               carry = omega (arith, y, z);

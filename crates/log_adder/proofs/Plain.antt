@@ -8,7 +8,7 @@ use lib.ListN.{length, length-map}
 use lib.Signed.{ltZ}
 use mathlib.Core.Bool.{Bool, cond, false, not, true}
 use mathlib.Core.List.{List, [], _++_, _∷_, map}
-use mathlib.Core.Option.{some}
+use mathlib.Core.Option.{none, some}
 use mathlib.Core.Path.{_∙_, _≡_, ap, refl}
 use native.Mathlib.Omega.{arith}
 use Rattle.arithmetic.specs.Integers.{div-ceil, div-floor, down, low-bit, shift, up}
@@ -20,7 +20,7 @@ use Rattle.mixed.specs.Enumerate.{bounded, enumerate}
 use Rattle.mixed.specs.Order.{OrderEncoding, domain-max, encode-eq, negated, upper-bound}
 use Rattle.mixed.specs.Terms.{Term, flip, term}
 use Rattle.mixed.proofs.Order.{Even, Evens, encode-ge-is, even-down, even-up, max-down, max-up}
-use Rattle.log_adder.specs.Adder2.{Adder2Output, adder2, dead-end, eq-adder, eq-column, eq-columns, eq-ge-terms, eq-le-terms, last-column, ordering, prepend, returned-set}
+use Rattle.log_adder.specs.Adder2.{Adder2Output, adder2, column-and-rest, column-answer, dead-end, eq-adder, eq-column, eq-columns, eq-ge-terms, eq-le-terms, last-column, returned-set, unless-dead}
 use Rattle.log_adder.specs.Column.{column, ge-terms, le-terms}
 use Rattle.log_adder.specs.PlainAdder2.{Carry, Signed, SignedColumns, adder-infos, carry-order, column-infos, from-0, greatest, info, least, minus-twice, next-carry, no-carry, plain-adder2, plain-eq-adder, signed-order}
 use Rattle.log_adder.proofs.MinusTwice.{Fits, carry-is, evenly, twice-even, twice-even′, twice-max, twice-max′}
@@ -180,9 +180,6 @@ fresh-length : (n v : ℕ) → length (fresh n v) ≡ n
 fresh-length zero v = refl
 fresh-length (suc n) v = ap suc (fresh-length n (suc v))
 
-abbrev joined : List ℕ → Clauses → Adder2Output → Adder2Output
-joined ls cs rest = record { sent = ordering ls ++ rest .sent; returned = prepend cs (rest .returned); vars = rest .vars }
-
 -- a column but the last, and the adders that go on from it
 module _ (own : List Signed) (carry : Carry) (k : ℤ) (v x y rest : ℕ) (fits : Fits carry) (apart : min x y ≡ 0)
     (sum : up k + up (carry .low) + y ≡ down k + down (carry .low) + (minuses own + 2 * rest) + x)
@@ -212,9 +209,9 @@ module _ (own : List Signed) (carry : Carry) (k : ℤ) (v x y rest : ℕ) (fits 
   left = omega (arith, sum, least-read own (carry .low))
 
   abbrev col : List ℕ → ℕ → Adder2Output
-  col ls w = joined ls (eq-column (map positive-lit own) (carry .lits) 0 ls odd) (other ls w)
+  col ls w = column-and-rest ls (eq-column (map positive-lit own) (carry .lits) 0 ls odd) (other ls w)
 
-  live-is : odd ≤ size → joined (next .lits) (encode-eq (column-infos own carry next) (low-bit k)) (plain next (v + length (next .lits)))
+  live-is : odd ≤ size → column-and-rest (next .lits) (encode-eq (column-infos own carry next) (low-bit k)) (plain next (v + length (next .lits)))
       ≡ col (fresh ((size - odd) / 2) v) (v + (size - odd) / 2)
   live-is a =
       let wide = span k l h size rest x y width apart left a in
@@ -227,20 +224,20 @@ module _ (own : List Signed) (carry : Carry) (k : ℤ) (v x y rest : ℕ) (fits 
       (omega (arith, low-is k l h size rest x y width apart left, least-read own (carry .low))) in
       let on : plain next (v + length (next .lits)) ≡ other (next .lits) (v + length (next .lits)) =
       ih next (v + length (next .lits)) fit (low-next k l h size rest x y width apart left) in
-      ap (λ cs. joined (next .lits) cs (plain next (v + length (next .lits)))) column
-      ∙ ap (λ out. joined (next .lits) (eq-column (map positive-lit own) (carry .lits) 0 (next .lits) odd) out) on
+      ap (λ cs. column-and-rest (next .lits) cs (plain next (v + length (next .lits)))) column
+      ∙ ap (λ out. column-and-rest (next .lits) (eq-column (map positive-lit own) (carry .lits) 0 (next .lits) odd) out) on
       ∙ ap (λ n. col (next .lits) (v + n)) lits
       ∙ ap (λ n. col (fresh n v) (v + (size - odd) / 2)) many
 
   step-is : cond (ltZ (next .high) (next .low)) (dead-end v)
-      (joined (next .lits) (encode-eq (column-infos own carry next) (low-bit k)) (plain next (v + length (next .lits))))
-      ≡ cond (leb odd size) (col (fresh ((size - odd) / 2) v) (v + (size - odd) / 2)) (dead-end v)
+      (column-and-rest (next .lits) (encode-eq (column-infos own carry next) (low-bit k)) (plain next (v + length (next .lits))))
+      ≡ unless-dead (column-answer size odd v) v (λ c. col (c .lits) (c .vars))
   step-is = rw (alive k l h size rest x y width apart left) (go (leb odd size) refl)
     where
       go : (b : Bool) → leb odd size ≡ b
           → cond (not b) (dead-end v)
-          (joined (next .lits) (encode-eq (column-infos own carry next) (low-bit k)) (plain next (v + length (next .lits))))
-          ≡ cond b (col (fresh ((size - odd) / 2) v) (v + (size - odd) / 2)) (dead-end v)
+          (column-and-rest (next .lits) (encode-eq (column-infos own carry next) (low-bit k)) (plain next (v + length (next .lits))))
+          ≡ unless-dead (cond b (some record { lits = fresh ((size - odd) / 2) v; vars = v + (size - odd) / 2 }) none) v (λ c. col (c .lits) (c .vars))
       go true q = live-is (leb-true odd size q)
       go false q = refl
 

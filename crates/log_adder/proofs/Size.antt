@@ -21,7 +21,7 @@ use Rattle.mixed.specs.Terms.{Term, flip, singles, term}
 use Rattle.mixed.proofs.Flip.{length-flip}
 use Rattle.mixed.proofs.Tally.{enumerate-tally}
 use Rattle.log_adder.specs.Adder.{AdderColumn, add-column, adder, carry-size, empty-column, extend, result, result-vars, tail}
-use Rattle.log_adder.specs.Adder2.{Adder2Output, EncodedEq, adder2, dead-end, eq-adder, eq-column, eq-column-ge, eq-column-le, eq-columns, eq-ge-terms, eq-le-terms, last-column, ordering, prepend, returned-set}
+use Rattle.log_adder.specs.Adder2.{Adder2Output, EncodedEq, adder2, column-and-rest, eq-adder, eq-column, eq-column-ge, eq-column-le, eq-columns, eq-ge-terms, eq-le-terms, last-column, ordering, prepend, returned-set, unless-dead}
 use Rattle.log_adder.specs.Column.{column, column-ge, column-le, ge-terms, le-terms}
 use Rattle.log_adder.specs.Gather.{Grid, pad-columns, push-scaled, push-value}
 use Rattle.log_adder.specs.Size.{Reached, add-count, adder-count, adder-vars, bounded-count, carry-vars, column-count, column-shape, column-shapes, eq-column-count, eq-column-reached, eq-reached, eq-returned, has-carry, height, own-counts, ordering-count, pad-shapes, push-counts, push-scaled-counts, reached, reached-column, reached-past, returned-count}
@@ -203,13 +203,15 @@ module _ (weigh : ℕ → ℕ) where
     abbrev count : ℕ
     count = eq-column-count weigh (r .own) (r .carry) 0 (r .next) (r .constant)
 
-    eq-column-size : (rest : Adder2Output) (rs : List Reached) (returned : Option ℕ) (t : Bool) → has-carry r ≡ t
-        → Adder2Size weigh (v + r .next) rest rs returned
+    eq-column-size : (more : List ℕ → ℕ → Adder2Output) (rs : List Reached) (returned : Option ℕ) (t : Bool) → has-carry r ≡ t
+        → Adder2Size weigh (v + r .next) (more next (v + r .next)) rs returned
         → Adder2Size weigh v
-        (cond t record { sent = ordering next ++ rest .sent; returned = prepend clauses (rest .returned); vars = rest .vars } (dead-end v))
+        (unless-dead (cond t (some record { lits = next; vars = v + r .next }) none) v
+        (λ c. column-and-rest (c .lits) (eq-column own carry 0 (c .lits) (r .constant)) (more (c .lits) (c .vars))))
         (r ∷ cond t rs [])
         (cond t (add-count count returned) none)
-    eq-column-size rest rs returned true q ih =
+    eq-column-size more rs returned true q ih =
+        let rest = more next (v + r .next) in
         let column-is : weight-of weigh clauses ≡ count = rw (length-fresh (r .next) v) at (eq-column-count-is weigh own carry next 0 (r .constant)) in
         record {
           sent-are = weight-append weigh (ordering next) (rest .sent)
@@ -217,7 +219,7 @@ module _ (weigh : ℕ → ℕ) where
           returned-are = prepend-count clauses (rest .returned) ∙ ap₂ add-count column-is (ih .returned-are);
           vars-are = omega (arith, ih .vars-are);
         }
-    eq-column-size rest rs returned false q ih =
+    eq-column-size more rs returned false q ih =
         let stop : r .next ≡ 0 = omega (arith, leb-false (r .constant) (height r) q) in
         record { sent-are = rw stop (omega arith); returned-are = refl; vars-are = omega arith }
 
@@ -230,7 +232,8 @@ module _ (weigh : ℕ → ℕ) where
       record { sent-are = omega arith; returned-are = ap some (eq-column-count-is weigh c carry [] x y); vars-are = omega arith }
   adder2-size c (d ∷ cols) x y carry v =
       let n = r c carry x y v .next in
-      eq-column-size c carry x y v _ _ _ (has-carry (r c carry x y v)) refl
+      eq-column-size c carry x y v (λ ls w. adder2 (eq-columns (d ∷ cols) ((x + 1) / 2) (y / 2)) (last-column (d ∷ cols) ((x + 1) / 2) (y / 2)) ls w)
+      _ _ (has-carry (r c carry x y v)) refl
       (rw (length-fresh n v) at (adder2-size d cols ((x + 1) / 2) (y / 2) (fresh n v) (v + n)))
 
   pub eq-adder-size : (grid : Grid) (x y v : ℕ) → EqSize weigh v (eq-adder grid x y v) (own-counts grid) x y

@@ -64,29 +64,38 @@ abbrev pub returned-set : Option Clauses → Clauses
 returned-set none = [] ∷ []
 returned-set (some cs) = cs
 
--- how many variables the outgoing carry has
-abbrev pub eq-carry-size : EqColumn → List ℕ → ℕ
-eq-carry-size col carry = (length (col .own) + length carry - col .target) / 2
+-- a column's new carry: its literals, and the variable count after them
+pub record NewCarry : Type 0 where
+  pub lits : List ℕ
+  pub vars : ℕ
 
--- a column whose bit exceeds its height; what it would return is dropped
+-- A column of that height, with its bit of the number to reach, answers with its carry or with a dead end, which has none: its bit
+-- exceeds its height.
+abbrev pub column-answer : ℕ → ℕ → ℕ → Option NewCarry
+column-answer height target v =
+    let n = (height - target) / 2 in
+    cond (leb target height) (some record { lits = fresh n v; vars = v + n }) none
+
+-- a dead end: what the columns before it would return is dropped
 abbrev pub dead-end : ℕ → Adder2Output
 dead-end v = record { sent = []; returned = none; vars = v }
+
+-- with its carry a column goes on to the next; a dead end leaves early
+abbrev pub unless-dead : Option NewCarry → ℕ → (NewCarry → Adder2Output) → Adder2Output
+unless-dead none v more = dead-end v
+unless-dead (some next) v more = more next
+
+-- a column's ordering clauses are sent and its inequalities returned, before those of the columns after it
+abbrev pub column-and-rest : List ℕ → Clauses → Adder2Output → Adder2Output
+column-and-rest next cs rest = record { sent = ordering next ++ rest .sent; returned = prepend cs (rest .returned); vars = rest .vars }
 
 -- the columns, the last, the carry into the first, and the variable count before
 abbrev pub adder2 : List EqColumn → LastColumn → List ℕ → ℕ → Adder2Output
 adder2 [] last carry v =
     record { sent = []; returned = some (eq-column (last .own) carry (last .plus) [] (last .target)); vars = v }
 adder2 (col ∷ cols) last carry v =
-    let n = eq-carry-size col carry in
-    let rest = adder2 cols last (fresh n v) (v + n) in
-    cond
-    (leb (col .target) (length (col .own) + length carry))
-    record {
-      sent = ordering (fresh n v) ++ rest .sent;
-      returned = prepend (eq-column (col .own) carry 0 (fresh n v) (col .target)) (rest .returned);
-      vars = rest .vars;
-    }
-    (dead-end v)
+    unless-dead (column-answer (length (col .own) + length carry) (col .target) v) v
+    (λ next. column-and-rest (next .lits) (eq-column (col .own) carry 0 (next .lits) (col .target)) (adder2 cols last (next .lits) (next .vars)))
 
 -- all the clauses in their order: those sent, then the returned set
 abbrev pub adder2-clauses : Adder2Output → Clauses

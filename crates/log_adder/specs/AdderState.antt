@@ -1,9 +1,8 @@
 -- The adder's state as the code holds it, and what is still to come.
 use Prim.Native.Nat.{ℕ, zero, suc, _+_, _*_, _/_, _%_, _^_, _≤_, _<_}
 use mathlib.Core.Path.{_≡_}
-use mathlib.Core.Bool.{Bool, true, false, not, cond, _&&_}
+use mathlib.Core.Bool.{Bool, cond}
 use mathlib.Core.List.{List, [], _∷_, _++_, map}
-use lib.Dec.{leb}
 use lib.ListN.{take, getD, length}
 use Rattle.sat.specs.Size.{entries}
 use Rattle.sat.specs.declared.Lit.{Lit}
@@ -42,10 +41,9 @@ input-columns zero i cols counts k = []
 input-columns (suc w) i cols counts k =
     record { own = map num (take (getD counts i 0) (getD cols i [])); constant = k % 2 } ∷ input-columns w (i + 1) cols counts (k / 2)
 
--- each of these columns, with the carry that comes in, has at most 12 literals
-abbrev pub heights-fit : ℕ → ℕ → List ℕ → ℕ → ℕ → Bool
-heights-fit zero i counts k c = true
-heights-fit (suc w) i counts k c = leb (getD counts i 0 + c) 12 && heights-fit w (i + 1) counts (k / 2) ((k % 2 + getD counts i 0 + c) / 2)
+-- every count is a number below 2 ^ 31
+abbrev pub CountsLow : List ℕ → Type 0
+CountsLow counts = (i : ℕ) → getD counts i 0 < 2 ^ 31
 
 -- One column ---------------------------------------------------------------------------------------------------------
 
@@ -68,7 +66,6 @@ column-info c s = record { own = c .own; height = c .height; carry = s .carry; b
 
 -- a state within bounds: they grow with the columns passed
 pub record InBounds (s : AdderState) : Type 0 where
-  pub not-tall : s .tall ≡ false
   pub long : length (s .bits) ≡ 32
   pub vars : s .vars ≤ 1048576 + 7 * s .len
   pub carry : s .carry .first .0 ≤ s .vars
@@ -105,19 +102,17 @@ pub record AdderFits (cols : List (List Lit)) (counts : List ℕ) (given : List 
   pub width : p .width ≤ 26
   pub fewer : p .given ≤ p .width
   pub own : (i : ℕ) → AllLow (getD cols i [])
-  pub heights : (i : ℕ) → getD counts i 0 < 2 ^ 31
   pub results : AllLow given
 
 abbrev pub input-all : List (List Lit) → List ℕ → AdderInput → List AdderColumn
 input-all cols counts p = input-columns (p .width) 0 cols counts (p .constant)
 
--- what the loop over the columns leaves: too tall, or what is still to come is the carry
+-- what the loop over the columns leaves: what is still to come is the carry
 pub record ColumnsAdded (d e : List ℕ) (cols : List (List Lit)) (counts : List ℕ) (given : List Lit) (p : AdderInput) (s : AdderState) (d′ e′ : List ℕ) (r : AdderState) : Type 0 where
-  pub tall : r .tall ≡ not (heights-fit (p .width) 0 counts (p .constant) (s .carry .count))
-  pub done : r .tall ≡ false
-      → (then (after d e (s .used)) (state-bits s) (adder (input-all cols counts p) (range-lits (s .carry)) (given-lits p given) (s .vars))
-      ≡ then (after d′ e′ (r .used)) (state-bits r) (extend (r .carry .count) (range-lits (r .carry)) (r .vars)))
-      × InBounds r × (r .len ≡ s .len + p .width)
+  pub done : then (after d e (s .used)) (state-bits s) (adder (input-all cols counts p) (range-lits (s .carry)) (given-lits p given) (s .vars))
+      ≡ then (after d′ e′ (r .used)) (state-bits r) (extend (r .carry .count) (range-lits (r .carry)) (r .vars))
+  pub steady : InBounds r
+  pub len : r .len ≡ s .len + p .width
 
 -- what the columns past the last leave
 pub record Extended (d e : List ℕ) (s : AdderState) (d′ e′ : List ℕ) (r : AdderState) : Type 0 where
@@ -125,15 +120,21 @@ pub record Extended (d e : List ℕ) (s : AdderState) (d′ e′ : List ℕ) (r 
   pub steady : InBounds r
   pub len : r .len ≤ 32
 
+-- the definition's clauses, bits and variables for these columns
+abbrev pub adder-output : List (List Lit) → List ℕ → List Lit → AdderInput → ℕ → EncodedBits
+adder-output cols counts given p v = adder (input-all cols counts p) [] (given-lits p given) v
+
 -- what the adder leaves
 pub record AdderAdded (d e : List ℕ) (cols : List (List Lit)) (counts : List ℕ) (given : List Lit) (p : AdderInput) (v : ℕ) (a : Counts) (d′ e′ : List ℕ) (r : AdderState) : Type 0 where
-  pub tall : r .tall ≡ not (heights-fit (p .width) 0 counts (p .constant) 0)
-  pub done : r .tall ≡ false
-      → (outcome d′ e′ r ≡ then (after d e a) [] (adder (input-all cols counts p) [] (given-lits p given) v)) × InBounds r × (r .len ≤ 32)
+  pub done : outcome d′ e′ r ≡ then (after d e a) [] (adder-output cols counts given p v)
+  pub steady : InBounds r
+  pub len : r .len ≤ 32
 
--- what counting finds: the same heights, the sizes of the clauses, the bits and the variables
+-- what counting finds: the sizes of the clauses, the bits and the variables
 pub record AdderCounted (cols : List (List Lit)) (counts : List ℕ) (given : List Lit) (p : AdderInput) (v : ℕ) (a : Counts) (r : AdderState) : Type 0 where
-  pub tall : r .tall ≡ not (heights-fit (p .width) 0 counts (p .constant) 0)
-  pub done : r .tall ≡ false
-      → let sum = adder (input-all cols counts p) [] (given-lits p given) v in
-      (r .used .lits ≡ a .lits + entries (sum .clauses)) × (r .used .clauses ≡ a .clauses + length (sum .clauses)) × (state-bits r ≡ sum .bits) × (r .vars ≡ sum .vars)
+  pub lits : r .used .lits ≡ a .lits + entries (adder-output cols counts given p v .clauses)
+  pub clauses : r .used .clauses ≡ a .clauses + length (adder-output cols counts given p v .clauses)
+  pub bits : state-bits r ≡ adder-output cols counts given p v .bits
+  pub vars : r .vars ≡ adder-output cols counts given p v .vars
+  pub steady : InBounds r
+  pub len : r .len ≤ 32

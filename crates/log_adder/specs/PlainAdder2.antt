@@ -5,13 +5,13 @@ use lib.IntN.{_*ℤ_, _+ℤ_, _-ℤ_, negsuc, pos, ℤ}
 use lib.ListN.{length}
 use lib.Signed.{ltZ}
 use mathlib.Core.Bool.{Bool, cond}
-use mathlib.Core.List.{List, [], _++_, _∷_, map, reverse}
+use mathlib.Core.List.{List, [], _∷_, map, reverse}
 use mathlib.Core.Option.{some}
 use Rattle.arithmetic.specs.Integers.{div-ceil, div-floor, low-bit, shift, up}
 use Rattle.sat.specs.Fresh.{fresh}
 use Rattle.sat.specs.Lit.{neg}
 use Rattle.mixed.specs.Order.{LinearInfo, OrderEncoding, encode-eq, steps}
-use Rattle.log_adder.specs.Adder2.{Adder2Output, EncodedEq, dead-end, ordering, prepend, returned-set}
+use Rattle.log_adder.specs.Adder2.{Adder2Output, EncodedEq, column-and-rest, dead-end, returned-set}
 
 -- a literal that counts 1, or -1
 pub record Signed : Type 0 where
@@ -83,11 +83,7 @@ plain-adder2 own (c ∷ cols) i constant carry v =
     cond
     (ltZ (next .high) (next .low))
     (dead-end v)
-    record {
-      sent = ordering (next .lits) ++ rest .sent;
-      returned = prepend (encode-eq (column-infos own carry next) target) (rest .returned);
-      vars = rest .vars;
-    }
+    (column-and-rest (next .lits) (encode-eq (column-infos own carry next) target) rest)
 
 -- the columns and the constant add up to 0; without a literal there is no column
 abbrev pub plain-eq-adder : SignedColumns → ℤ → ℕ → EncodedEq

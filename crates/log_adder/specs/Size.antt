@@ -1,7 +1,7 @@
 -- The columns that an adder reaches, and the size of its clauses, from numbers of literals and constants alone.
 use Prim.Native.Nat.{_%_, _*_, _+_, _-_, _/_, suc, zero, ℕ}
 use lib.Dec.{eqb, leb, ltb}
-use lib.ListN.{length}
+use lib.ListN.{getD, length}
 use mathlib.Core.Bool.{Bool, _||_, cond, false}
 use mathlib.Core.List.{List, [], _∷_, map}
 use mathlib.Core.Option.{Option, none, some}
@@ -66,6 +66,11 @@ pad-shapes zero [] = []
 pad-shapes (suc n) [] = record { own = 0; constant = 0 } ∷ pad-shapes n []
 pad-shapes zero (h ∷ hs) = record { own = h; constant = 0 } ∷ pad-shapes zero hs
 pad-shapes (suc n) (h ∷ hs) = record { own = h; constant = 0 } ∷ pad-shapes n hs
+
+-- w columns from the i-th on, with as many literals as counted and the bits of k
+abbrev pub input-shapes : ℕ → ℕ → List ℕ → ℕ → List ColumnShape
+input-shapes zero i counts k = []
+input-shapes (suc w) i counts k = record { own = getD counts i 0; constant = k % 2 } ∷ input-shapes w (i + 1) counts (k / 2)
 
 -- The columns reached -------------------------------------------------------------------------------------------------
 

@@ -3,11 +3,12 @@ ghost use mathlib.Core.Path.{_≡_};
 ghost use mathlib.Core.List.{[], _∷_, _++_, map};
 ghost use Prim.Native.Nat.{_+_, _-_, _*_, _^_, _≤_, _<_};
 ghost use lib.ListN.{length, take};
-ghost use mathlib.Core.Bool.{true};
+ghost use mathlib.Core.Bool.{false, not};
 ghost use Rattle.clause_set.specs.Stores.{add-clauses, after, stores};
 ghost use Rattle.mixed.specs.Infos.{AllSmall};
-ghost use Rattle.log_adder.specs.AdderState.{AdderAdded, AdderCounted, AdderFits, ColumnAdded, ColumnReady, ColumnsAdded, Extended, InBounds, result-count, result-lit};
+ghost use Rattle.log_adder.specs.AdderState.{AdderAdded, AdderCounted, AdderFits, ColumnAdded, ColumnReady, ColumnsAdded, CountsLow, Extended, InBounds, result-count, result-lit};
 ghost use Rattle.log_adder.specs.ColumnInfo.{ColumnSized, column-clauses, column-infos, lit-info, range-info};
+ghost use Rattle.log_adder.specs.Size.{input-shapes, reached, too-tall};
 use clause_set::Counts;
 use mixed::LinearInfo;
 use sat::Lit;
@@ -130,14 +131,13 @@ pub struct ColumnInput {
     pub result: Lit,
 }
 
-// The adder's state: the bits' literals so far, the variables counted, the carry, the counts; or a column was too tall.
+// The adder's state: the bits' literals so far, the variables counted, the carry, the counts.
 pub struct AdderState {
     pub bits: [Lit; 32],
     pub len: usize,
     pub vars: u32,
     pub carry: VarRange,
     pub used: Counts,
-    pub tall: bool,
 }
 
 // How many columns, the constant, and how many results are given.
@@ -206,20 +206,30 @@ fn add_column(lits: &mut [u32], ends: &mut [u32], c: ColumnInput, s: AdderState)
             clauses: used.clauses + wrote.clauses,
             lits: used.lits + wrote.lits,
         },
-        tall: false,
     }
 }
 
-// A column is too tall.
-fn too_tall(s: AdderState) -> AdderState
-    ensures { λ r. ⌜ r .tall ≡ true ⌝ }
+// Whether no column that the adder reaches has more than 12 literals.
+pub fn heights_fit(counts: [u32; 32], width: usize, constant: u32) -> bool
+    requires { ⌜ (width ≤ 32) × CountsLow counts ⌝ }
+    ensures { λ r. ⌜ r ≡ not (too-tall (reached (input-shapes width 0 counts constant) 0)) ⌝ }
 {
-    let mut r = s;
-    r.tall = true;
-    r
+    let mut bits = constant;
+    let mut carry: u32 = 0;
+    let mut i: usize = 0;
+    while i < width {
+        let height = counts[i] + carry;
+        if 12 < height {
+            return false;
+        }
+        carry = (bits % 2 + height) / 2;
+        bits = bits / 2;
+        i += 1;
+    }
+    true
 }
 
-// The columns, one after the other, as far as they are not too tall.
+// The columns, one after the other.
 fn add_columns(
     lits: &mut [u32],
     ends: &mut [u32],
@@ -230,6 +240,7 @@ fn add_columns(
     start: AdderState,
 ) -> AdderState
     requires { ⌜ AdderFits cols counts given p ⌝ }
+    requires { ⌜ too-tall (reached (input-shapes (p .width) 0 counts (p .constant)) (start .carry .count)) ≡ false ⌝ }
     requires { ⌜ InBounds start ⌝ }
     requires { ⌜ start .len ≡ 0 ⌝ }
     ensures { λ r. ⌜ ColumnsAdded (now (lits .entry)) (now (ends .entry)) cols counts given p start (now (lits .exit)) (now (ends .exit)) r ⌝ }
@@ -241,10 +252,6 @@ fn add_columns(
     let mut i: usize = 0;
     while i < width {
         let height = counts[i];
-        let carry = s.carry;
-        if 12 < height + carry.count {
-            return too_tall(s);
-        }
         let own = cols[i];
         let result = given[i];
         let c = ColumnInput {
@@ -297,6 +304,7 @@ pub fn log_encoding_adder(
     at: Counts,
 ) -> AdderState
     requires { ⌜ AdderFits cols counts given p ⌝ }
+    requires { ⌜ too-tall (reached (input-shapes (p .width) 0 counts (p .constant)) 0) ≡ false ⌝ }
     requires { ⌜ (vars ≤ 1048576) × (at .lits ≤ 1073741824) × (at .clauses ≤ 1073741824) ⌝ }
     ensures { λ r. ⌜ AdderAdded (now (lits .entry)) (now (ends .entry)) cols counts given p vars at (now (lits .exit)) (now (ends .exit)) r ⌝ }
 {
@@ -309,12 +317,8 @@ pub fn log_encoding_adder(
             count: 0,
         },
         used: at,
-        tall: false,
     };
     let s = add_columns(lits, ends, cols, counts, given, p, start);
-    if s.tall {
-        return s;
-    }
     extend_carry(lits, ends, s)
 }
 
@@ -330,6 +334,7 @@ pub fn count_adder(
     at: Counts,
 ) -> AdderState
     requires { ⌜ AdderFits cols counts given p ⌝ }
+    requires { ⌜ too-tall (reached (input-shapes (p .width) 0 counts (p .constant)) 0) ≡ false ⌝ }
     requires { ⌜ (vars ≤ 1048576) × (at .lits ≤ 1073741824) × (at .clauses ≤ 1073741824) ⌝ }
     ensures { λ r. ⌜ (now (lits .exit) ≡ now (lits .entry)) × (now (ends .exit) ≡ now (ends .entry)) × AdderCounted cols counts given p vars at r ⌝ }
 {

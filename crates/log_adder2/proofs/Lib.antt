@@ -1,4 +1,5 @@
 pub mod Halves
 pub mod Ordering
+pub mod EqHeights
 pub mod OrderingPass
 pub mod ColumnsPass

@@ -1,7 +1,8 @@
 -- The ordering pass: its invariant, and each way out of it.
 use mathlib.Core.Path.{_≡_, refl, ap, sym, _∙_}
-use mathlib.Core.Bool.{Bool, true, false, not, cond}
+use mathlib.Core.Bool.{Bool, true, false, cond}
 use mathlib.Core.List.{List, [], _∷_, _++_, append-nil}
+use mathlib.Core.Option.{none, some}
 use Prim.Native.Nat.{ℕ, zero, suc, _+_, _-_, _*_, _/_, _%_, _≤_, _<_}
 use native.Mathlib.Nat.{not-suc-le-zero, sub-zero}
 use native.Mathlib.Numerals.{sub-one}
@@ -18,28 +19,34 @@ use Rattle.log_adder2.specs.declared.EqState.{EqState}
 use Rattle.clause_set.specs.Stores.{Stores, add-clauses, after}
 use Rattle.clause_set.proofs.Adding.{add-append, count-after, used-after}
 use Rattle.sat.specs.Fresh.{fresh}
-use Rattle.log_adder.proofs.AdderLoops.{not-both}
-use Rattle.log_adder.specs.Adder2.{ordering}
-use Rattle.log_adder2.specs.EqState.{Carries, CarriesOrdered, EqInBounds, carries-from, carries-then, eq-heights-fit, next-column, no-vars}
+use Rattle.sat.proofs.Fresh.{length-fresh}
+use Rattle.log_adder.specs.Adder2.{NewCarry, column-answer, ordering}
+use Rattle.log_adder2.specs.EqState.{Carries, CarriesOrdered, EqInBounds, carries, carries-from, carries-then, carry-of, no-vars}
+use Rattle.log_adder2.proofs.EqHeights.{column-fits, fits-step, tall-from}
 use Rattle.log_adder2.proofs.Ordering.{ordering-size}
 
 -- A column's answer --------------------------------------------------------------------------------------------------
 
-pub carry-is : (h odd v : ℕ) (a : Var) (n : ℕ) → next-column h odd v ≡ Carry a n → (odd ≤ h) × (a .0 ≡ v) × (n ≡ (h - odd) / 2)
+pub carry-is : (h odd v : ℕ) (a : Var) (n : ℕ) → column-answer h odd v ≡ carry-of (Carry a n) → (odd ≤ h) × (a .0 ≡ v) × (n ≡ (h - odd) / 2)
 carry-is h odd v a n p = go (leb odd h) refl
   where
     go : (t : Bool) → leb odd h ≡ t → (odd ≤ h) × (a .0 ≡ v) × (n ≡ (h - odd) / 2)
     go true e =
-        let k : Carry (record { 0 = v }) ((h - odd) / 2) ≡ Carry a n = rw e at p in
-        let same : record { 0 = v } ≡ a = cc in
-        (leb-true odd h e, ap (λ (x : Var). x .0) (sym same), cc)
-    go false e = let k : Dead ≡ Carry a n = rw e at p in let z : _≡_ {A = ℕ} 0 1 = cc in absurd (omega arith)
+        let k : some (record { lits = fresh ((h - odd) / 2) v; vars = v + (h - odd) / 2 }) ≡ carry-of (Carry a n) = rw e at p in
+        let same : _≡_ {A = NewCarry} (record { lits = fresh ((h - odd) / 2) v; vars = v + (h - odd) / 2 }) (record { lits = fresh n (a .0); vars = a .0 + n }) = cc in
+        let m : (h - odd) / 2 ≡ n = sym (length-fresh ((h - odd) / 2) v) ∙ ap (λ (x : NewCarry). length (x .lits)) same ∙ length-fresh n (a .0) in
+        let w : v + (h - odd) / 2 ≡ a .0 + n = ap (λ (x : NewCarry). x .vars) same in
+        (leb-true odd h e, omega arith, sym m)
+    go false e = let k : none ≡ carry-of (Carry a n) = rw e at p in let z : _≡_ {A = ℕ} 0 1 = cc in absurd (omega arith)
 
-pub dead-is : (h odd v : ℕ) → next-column h odd v ≡ Dead → h < odd
+pub dead-is : (h odd v : ℕ) → column-answer h odd v ≡ carry-of Dead → h < odd
 dead-is h odd v p = go (leb odd h) refl
   where
     go : (t : Bool) → leb odd h ≡ t → h < odd
-    go true e = let k : Carry (record { 0 = v }) ((h - odd) / 2) ≡ Dead = rw e at p in let z : _≡_ {A = ℕ} 0 1 = cc in absurd (omega arith)
+    go true e =
+        let k : some (record { lits = fresh ((h - odd) / 2) v; vars = v + (h - odd) / 2 }) ≡ carry-of Dead = rw e at p in
+        let z : _≡_ {A = ℕ} 0 1 = cc in
+        absurd (omega arith)
     go false e = leb-false odd h e
 
 -- The definitions, as the code comes by them -------------------------------------------------------------------------
@@ -49,7 +56,7 @@ module _ (counts : List ℕ) where
       → let n = (getD counts i 0 + c - (x + y) % 2) / 2 in
       carries-from w i counts x y c v ≡ carries-then (ordering (fresh n v)) (carries-from (w - 1) (i + 1) counts ((x + 1) / 2) (y / 2) n (v + n))
   carries-step zero i x y c v z h = absurd (not-suc-le-zero z)
-  carries-step (suc w) i x y c v z h = rw (le-leb ((x + y) % 2) (getD counts i 0 + c) h, sub-one (suc w))
+  carries-step (suc w) i x y c v z h = rw (le-leb ((x + y) % 2) (getD counts i 0 + c) h, length-fresh ((getD counts i 0 + c - (x + y) % 2) / 2) v, sub-one (suc w))
 
   pub carries-dead : (w i x y c v : ℕ) → 0 < w → getD counts i 0 + c < (x + y) % 2 → carries-from w i counts x y c v ≡ record { sent = []; vars = v; dead = true }
   carries-dead zero i x y c v z h = absurd (not-suc-le-zero z)
@@ -58,23 +65,6 @@ module _ (counts : List ℕ) where
   pub carries-end : (w i x y c v : ℕ) → w ≤ 0 → carries-from w i counts x y c v ≡ record { sent = []; vars = v; dead = false }
   carries-end zero i x y c v h = refl
   carries-end (suc w) i x y c v h = absurd (not-suc-le-zero h)
-
-  pub heights-step : (w i x y c : ℕ) → 0 < w → getD counts i 0 + c ≤ 12 → (x + y) % 2 ≤ getD counts i 0 + c
-      → eq-heights-fit w i counts x y c ≡ eq-heights-fit (w - 1) (i + 1) counts ((x + 1) / 2) (y / 2) ((getD counts i 0 + c - (x + y) % 2) / 2)
-  heights-step zero i x y c z k h = absurd (not-suc-le-zero z)
-  heights-step (suc w) i x y c z k h = rw (le-leb (getD counts i 0 + c) 12 k, le-leb ((x + y) % 2) (getD counts i 0 + c) h, sub-one (suc w))
-
-  pub heights-dead : (w i x y c : ℕ) → 0 < w → getD counts i 0 + c ≤ 12 → getD counts i 0 + c < (x + y) % 2 → eq-heights-fit w i counts x y c ≡ true
-  heights-dead zero i x y c z k h = absurd (not-suc-le-zero z)
-  heights-dead (suc w) i x y c z k h = rw (le-leb (getD counts i 0 + c) 12 k, lt-leb ((x + y) % 2) (getD counts i 0 + c) h)
-
-  pub heights-tall : (w i x y c : ℕ) → 12 < getD counts i 0 + c → eq-heights-fit w i counts x y c ≡ false
-  heights-tall zero i x y c k = lt-leb (getD counts i 0 + c) 12 k
-  heights-tall (suc w) i x y c k = rw (lt-leb (getD counts i 0 + c) 12 k)
-
-  pub heights-end : (w i x y c : ℕ) → w ≤ 0 → getD counts i 0 + c ≤ 12 → eq-heights-fit w i counts x y c ≡ true
-  heights-end zero i x y c h k = le-leb (getD counts i 0 + c) 12 k
-  heights-end (suc w) i x y c h k = absurd (not-suc-le-zero h)
 
 -- The invariant ------------------------------------------------------------------------------------------------------
 
@@ -90,20 +80,21 @@ module _ (counts : List ℕ) (last : ℕ) where
     pub level : EqInBounds (s₀ .used .lits + 12 * i) (s₀ .used .clauses + 6 * i) i s
     pub lits-long : length d ≡ length d₀
     pub ends-long : length e ≡ length e₀
-    pub heights : eq-heights-fit last 0 counts (s₀ .x) (s₀ .y) (s₀ .carry .count) ≡ eq-heights-fit (last - i) i counts (s .x) (s .y) (s .carry .count)
+    pub fits : tall-from counts (suc (last - i)) i (s .x) (s .y) (s .carry .count) ≡ false
     pub same : add-clauses 0 (whole s₀ .sent) (after d₀ e₀ (s₀ .used)) ≡ add-clauses 0 (coming s i .sent) (after d e (s .used))
     pub vars : whole s₀ .vars ≡ coming s i .vars
     pub dead : whole s₀ .dead ≡ coming s i .dead
 
-  pub ordering-start : (d e : List ℕ) (s : EqState) → EqInBounds (s .used .lits) (s .used .clauses) 0 s → OrderingLeft d e s d e s 0
-  ordering-start d e s z =
+  pub ordering-start : (d e : List ℕ) (s : EqState) → tall-from counts (suc last) 0 (s .x) (s .y) (s .carry .count) ≡ false
+      → EqInBounds (s .used .lits) (s .used .clauses) 0 s → OrderingLeft d e s d e s 0
+  ordering-start d e s f z =
       record {
         within = omega arith;
         level =
-            record { not-tall = z .not-tall; live = z .live; x = z .x; y = z .y; vars = z .vars; carry = z .carry; few = z .few; lits = omega arith; clauses = omega arith };
+            record { live = z .live; x = z .x; y = z .y; vars = z .vars; carry = z .carry; few = z .few; lits = omega arith; clauses = omega arith };
         lits-long = refl;
         ends-long = refl;
-        heights = rw (sub-zero last);
+        fits = rw (sub-zero last) f;
         same = rw (sub-zero last);
         vars = rw (sub-zero last);
         dead = rw (sub-zero last);
@@ -117,15 +108,20 @@ module _ (counts : List ℕ) (last : ℕ) where
     odd· = (s .x + s .y) % 2
 
     abbrev next· : Counts → Var → ℕ → EqState
-    next· u a n = record { x = (s .x + 1) / 2; y = s .y / 2; vars = a .0 + n; carry = record { first = a; count = n }; used = u; tall = false; dead = false }
+    next· u a n = record { x = (s .x + 1) / 2; y = s .y / 2; vars = a .0 + n; carry = record { first = a; count = n }; used = u; dead = false }
 
-    turn-at : i < last → h· ≤ 12 → odd· ≤ h· → (d′ e′ : List ℕ) (u : Counts) (n : ℕ) → n ≡ (h· - odd·) / 2
+    pub ordering-high : h· ≤ 12
+    ordering-high = column-fits counts (suc (last - i)) i (s .x) (s .y) (s .carry .count) (omega arith) (m .fits)
+
+    turn-at : i < last → odd· ≤ h· → (d′ e′ : List ℕ) (u : Counts) (n : ℕ) → n ≡ (h· - odd·) / 2
         → length d′ ≡ length d → length e′ ≡ length e
         → after d′ e′ u ≡ add-clauses 0 (ordering (fresh n (s .vars))) (after d e (s .used)) → OrderingLeft d₀ e₀ s₀ d′ e′ (next· u (record { 0 = s .vars }) n) (i + 1)
-    turn-at h k o d′ e′ u n q lo en w =
+    turn-at h o d′ e′ u n q lo en w =
+        let k = ordering-high in
         let cs : List (List ℕ) = ordering (fresh n (s .vars)) in
         let z = m .level in
         let j : last - i - 1 ≡ last - (i + 1) = omega arith in
+        let next : suc (last - i) - 1 ≡ suc (last - (i + 1)) = omega arith in
         let t : coming s i ≡ carries-then cs (coming (next· u (record { 0 = s .vars }) n) (i + 1)) =
         carries-step counts (last - i) i (s .x) (s .y) (s .carry .count) (s .vars) (omega arith) o
         ∙ (λ r. carries-then (ordering (fresh (sym q r) (s .vars))) (carries-from (j r) (i + 1) counts ((s .x + 1) / 2) (s .y / 2) (sym q r) (s .vars + sym q r))) in
@@ -136,7 +132,6 @@ module _ (counts : List ℕ) (last : ℕ) where
           within = omega arith;
           level =
               record {
-                not-tall = refl;
                 live = refl;
                 x = omega (arith, z .x);
                 y = omega (arith, z .y);
@@ -148,8 +143,8 @@ module _ (counts : List ℕ) (last : ℕ) where
               };
           lits-long = lo ∙ m .lits-long;
           ends-long = en ∙ m .ends-long;
-          heights = m .heights ∙ heights-step counts (last - i) i (s .x) (s .y) (s .carry .count) (omega arith) k o
-              ∙ (λ r. eq-heights-fit (j r) (i + 1) counts ((s .x + 1) / 2) (s .y / 2) (sym q r));
+          fits = (λ r. tall-from counts (sym next r) (i + 1) ((s .x + 1) / 2) (s .y / 2) (q r))
+              ∙ sym (fits-step counts (suc (last - i)) i (s .x) (s .y) (s .carry .count) (omega arith) k o) ∙ m .fits;
           same = m .same ∙ ap (λ (x : Carries). add-clauses 0 (x .sent) (after d e (s .used))) t
               ∙ add-append 0 cs (coming (next· u (record { 0 = s .vars }) n) (i + 1) .sent) (after d e (s .used))
               ∙ ap (add-clauses 0 (coming (next· u (record { 0 = s .vars }) n) (i + 1) .sent)) (sym w);
@@ -157,67 +152,55 @@ module _ (counts : List ℕ) (last : ℕ) where
           dead = m .dead ∙ ap (λ (x : Carries). x .dead) t;
         }
 
-    pub ordering-turn : i < last → h· ≤ 12 → (a : Var) (n : ℕ) → next-column h· odd· (s .vars) ≡ Carry a n → (d′ e′ : List ℕ) (r : EqState)
+    pub ordering-turn : i < last → (a : Var) (n : ℕ) → column-answer h· odd· (s .vars) ≡ carry-of (Carry a n) → (d′ e′ : List ℕ) (r : EqState)
         → length d′ ≡ length d → length e′ ≡ length e
         → (r ≡ next· (r .used) a n) × (after d′ e′ (r .used) ≡ add-clauses 0 (ordering (fresh n (a .0))) (after d e (s .used))) → OrderingLeft d₀ e₀ s₀ d′ e′ r (i + 1)
-    ordering-turn h k a n p d′ e′ r lo en w =
+    ordering-turn h a n p d′ e′ r lo en w =
         let f = carry-is h· odd· (s .vars) a n p in
         let at : _≡_ {A = Var} a (record { 0 = s .vars }) = ap {B = Var} (λ (x : ℕ). record { 0 = x }) (f .1) in
-        rw (w .0, at) (turn-at h k (f .0) d′ e′ (r .used) n (f .2) lo en (w .1 ∙ ap (λ (b : ℕ). add-clauses 0 (ordering (fresh n b)) (after d e (s .used))) (f .1)))
-
-    pub left-tall : 12 < h· → true ≡ not (eq-heights-fit last 0 counts (s₀ .x) (s₀ .y) (s₀ .carry .count))
-    left-tall k = rw (m .heights, heights-tall counts (last - i) i (s .x) (s .y) (s .carry .count) k)
+        rw (w .0, at) (turn-at h (f .0) d′ e′ (r .used) n (f .2) lo en (w .1 ∙ ap (λ (b : ℕ). add-clauses 0 (ordering (fresh n b)) (after d e (s .used))) (f .1)))
 
 -- The ways out -------------------------------------------------------------------------------------------------------
 
 abbrev pub start-state : EqInput → Counts → EqState
-start-state g a = record { x = g .x; y = g .y; vars = g .vars; carry = no-vars; used = a; tall = false; dead = false }
+start-state g a = record { x = g .x; y = g .y; vars = g .vars; carry = no-vars; used = a; dead = false }
 
 module _ (counts : List ℕ) (g : EqInput) (a : Counts) (few : g .width ≤ 26) {d₀ e₀ d e : List ℕ} {s : EqState} {i : ℕ} (m : OrderingLeft counts (g .width - 1) d₀ e₀ (start-state g a) d e s i) where
-  pub ordering-tall : (r : EqState) → r .tall ≡ true → 12 < getD counts i 0 + s .carry .count → CarriesOrdered d₀ e₀ counts g a d e r
-  ordering-tall r t k = record { tall = t ∙ left-tall counts (g .width - 1) m k; done = λ f. absurd (not-both (r .tall) t f) }
-
-  pub ordering-dead : i < g .width - 1 → getD counts i 0 + s .carry .count ≤ 12 → next-column (getD counts i 0 + s .carry .count) ((s .x + s .y) % 2) (s .vars) ≡ Dead
+  pub ordering-dead : i < g .width - 1 → column-answer (getD counts i 0 + s .carry .count) ((s .x + s .y) % 2) (s .vars) ≡ carry-of Dead
       → (d′ e′ : List ℕ) (r : EqState)
-      → (r .dead ≡ true) × (r .tall ≡ s .tall) × (r .vars ≡ s .vars) × (after d′ e′ (r .used) ≡ add-clauses 0 ([] ∷ []) (after d e (s .used)))
+      → (r .dead ≡ true) × (r .vars ≡ s .vars) × (after d′ e′ (r .used) ≡ add-clauses 0 ([] ∷ []) (after d e (s .used)))
       → CarriesOrdered d₀ e₀ counts g a d′ e′ r
-  ordering-dead h k p d′ e′ r w =
+  ordering-dead h p d′ e′ r w =
       let last : ℕ = g .width - 1 in
       let S : Stores = after d₀ e₀ a in
-      let W : Carries = carries-from last 0 counts (g .x) (g .y) 0 (g .vars) in
+      let W : Carries = carries counts g in
       let o = dead-is (getD counts i 0 + s .carry .count) ((s .x + s .y) % 2) (s .vars) p in
       let t = carries-dead counts (last - i) i (s .x) (s .y) (s .carry .count) (s .vars) (omega arith) o in
       let b : add-clauses 0 (W .sent) S ≡ after d e (s .used) = m .same ∙ ap (λ (x : Carries). add-clauses 0 (x .sent) (after d e (s .used))) t in
-      let ul : r .used .lits ≡ s .used .lits + 0 = ap (λ (x : Stores). x .used) (w .3) ∙ used-after 0 ([] ∷ []) (after d e (s .used)) in
-      let uc : r .used .clauses ≡ s .used .clauses + 1 = ap (λ (x : Stores). x .count) (w .3) ∙ count-after 0 ([] ∷ []) (after d e (s .used)) in
+      let ul : r .used .lits ≡ s .used .lits + 0 = ap (λ (x : Stores). x .used) (w .2) ∙ used-after 0 ([] ∷ []) (after d e (s .used)) in
+      let uc : r .used .clauses ≡ s .used .clauses + 1 = ap (λ (x : Stores). x .count) (w .2) ∙ count-after 0 ([] ∷ []) (after d e (s .used)) in
       let z = m .level in
       record {
-        tall = w .1 ∙ z .not-tall ∙ sym (rw (m .heights, heights-dead counts (last - i) i (s .x) (s .y) (s .carry .count) (omega arith) k o));
-        done = λ f. (
-          w .3 ∙ ap (add-clauses 0 ([] ∷ [])) (sym b) ∙ sym (add-append 0 (W .sent) ([] ∷ []) S) ∙ ap (λ (c : Bool). add-clauses 0 (W .sent ++ cond c ([] ∷ []) []) S) (sym (w .0)),
-          w .0 ∙ sym (m .dead ∙ ap (λ (x : Carries). x .dead) t),
-          w .2 ∙ sym (m .vars ∙ ap (λ (x : Carries). x .vars) t),
-          omega (arith, z .lits),
-          omega (arith, z .clauses),
-        );
+        stores = w .2 ∙ ap (add-clauses 0 ([] ∷ [])) (sym b) ∙ sym (add-append 0 (W .sent) ([] ∷ []) S) ∙ ap (λ (c : Bool). add-clauses 0 (W .sent ++ cond c ([] ∷ []) []) S) (sym (w .0));
+        dead = w .0 ∙ sym (m .dead ∙ ap (λ (x : Carries). x .dead) t);
+        vars = w .1 ∙ sym (m .vars ∙ ap (λ (x : Carries). x .vars) t);
+        lits = omega (arith, z .lits);
+        clauses = omega (arith, z .clauses);
       }
 
-  pub ordering-end : g .width - 1 ≤ i → getD counts i 0 + s .carry .count ≤ 12 → CarriesOrdered d₀ e₀ counts g a d e s
-  ordering-end h k =
+  pub ordering-end : g .width - 1 ≤ i → CarriesOrdered d₀ e₀ counts g a d e s
+  ordering-end h =
       let last : ℕ = g .width - 1 in
       let S : Stores = after d₀ e₀ a in
-      let W : Carries = carries-from last 0 counts (g .x) (g .y) 0 (g .vars) in
+      let W : Carries = carries counts g in
       let t = carries-end counts (last - i) i (s .x) (s .y) (s .carry .count) (s .vars) (omega arith) in
       let b : add-clauses 0 (W .sent) S ≡ after d e (s .used) = m .same ∙ ap (λ (x : Carries). add-clauses 0 (x .sent) (after d e (s .used))) t in
       let z = m .level in
       let wi = m .within in
       record {
-        tall = z .not-tall ∙ sym (rw (m .heights, heights-end counts (last - i) i (s .x) (s .y) (s .carry .count) (omega arith) k));
-        done = λ f. (
-          sym b ∙ sym (ap (λ (cs : List (List ℕ)). add-clauses 0 cs S) (append-nil (W .sent))) ∙ ap (λ (c : Bool). add-clauses 0 (W .sent ++ cond c ([] ∷ []) []) S) (sym (z .live)),
-          z .live ∙ sym (m .dead ∙ ap (λ (x : Carries). x .dead) t),
-          sym (m .vars ∙ ap (λ (x : Carries). x .vars) t),
-          omega (arith, z .lits),
-          omega (arith, z .clauses),
-        );
+        stores = sym b ∙ sym (ap (λ (cs : List (List ℕ)). add-clauses 0 cs S) (append-nil (W .sent))) ∙ ap (λ (c : Bool). add-clauses 0 (W .sent ++ cond c ([] ∷ []) []) S) (sym (z .live));
+        dead = z .live ∙ sym (m .dead ∙ ap (λ (x : Carries). x .dead) t);
+        vars = sym (m .vars ∙ ap (λ (x : Carries). x .vars) t);
+        lits = omega (arith, z .lits);
+        clauses = omega (arith, z .clauses);
       }

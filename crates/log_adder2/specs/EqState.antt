@@ -1,10 +1,9 @@
 -- The state of the adder of Eq as the code holds it, and what is still to come.
 use Prim.Native.Nat.{ℕ, zero, suc, _+_, _-_, _*_, _/_, _%_, _^_, _≤_, _<_}
 use mathlib.Core.Path.{_≡_}
-use mathlib.Core.Bool.{Bool, true, false, not, cond, _&&_}
+use mathlib.Core.Bool.{Bool, true, false, cond}
 use mathlib.Core.List.{List, [], _∷_, _++_, map}
 use mathlib.Core.Option.{Option, none, some}
-use lib.Dec.{leb}
 use lib.ListN.{take, getD, length}
 use Rattle.sat.specs.Size.{entries}
 use Rattle.sat.specs.declared.Lit.{Lit}
@@ -19,19 +18,16 @@ use Rattle.sat.specs.Clause.{Clauses}
 use Rattle.clause_set.specs.Stores.{add-clauses, after}
 use Rattle.log_adder.specs.ColumnInfo.{AllLow, num, own-lits, range-lits}
 use Rattle.sat.specs.Fresh.{fresh}
-use Rattle.log_adder.specs.Adder2.{Adder2Output, EqColumn, LastColumn, adder2, adder2-clauses, eq-column, ordering}
+use Rattle.log_adder.specs.Adder2.{Adder2Output, EqColumn, LastColumn, NewCarry, adder2, adder2-clauses, column-answer, eq-column, ordering}
 
 -- a column's clauses: x + own + carry = 2 next + y
 abbrev pub eq-column-clauses : ColumnInfo → ℕ → ℕ → Clauses
 eq-column-clauses c x y = eq-column (own-lits c) (range-lits (c .carry)) x (range-lits (c .next)) y
 
--- a column answers with its carry or with a dead end
-abbrev pub pick-column : Bool → Column → Column → Column
-pick-column true a b = a
-pick-column false a b = b
-
-abbrev pub next-column : ℕ → ℕ → ℕ → Column
-next-column height odd v = pick-column (leb odd height) (Carry (record { 0 = v }) ((height - odd) / 2)) Dead
+-- what a column answers: its carry's literals and the variable count after them; a dead end has none
+abbrev pub carry-of : Column → Option NewCarry
+carry-of (Carry first n) = some record { lits = fresh n (first .0); vars = first .0 + n }
+carry-of Dead = none
 
 -- The columns of a goal: with x they are to add up to y --------------------------------------------------------------
 
@@ -50,23 +46,7 @@ last-at (suc w) i cols counts x y = last-at w (i + 1) cols counts ((x + 1) / 2) 
 abbrev pub output-at : ℕ → ℕ → List (List Lit) → List ℕ → ℕ → ℕ → VarRange → ℕ → Adder2Output
 output-at w i cols counts x y p v = adder2 (columns-at w i cols counts x y) (last-at w i cols counts x y) (range-lits p) v
 
--- a dead end
-abbrev pub is-dead : Option Clauses → Bool
-is-dead none = true
-is-dead (some cs) = false
-
--- each column reached has at most 12 literals
-abbrev pub eq-heights-fit : ℕ → ℕ → List ℕ → ℕ → ℕ → ℕ → Bool
-eq-heights-fit zero i counts x y c = leb (getD counts i 0 + c) 12
-eq-heights-fit (suc w) i counts x y c =
-    leb (getD counts i 0 + c) 12
-    && cond (leb ((x + y) % 2) (getD counts i 0 + c)) (eq-heights-fit w (i + 1) counts ((x + 1) / 2) (y / 2) ((getD counts i 0 + c - (x + y) % 2) / 2)) true
-
 -- Bounds -------------------------------------------------------------------------------------------------------------
-
--- every count is a number below 2 ^ 31
-abbrev pub CountsLow : List ℕ → Type 0
-CountsLow counts = (i : ℕ) → getD counts i 0 < 2 ^ 31
 
 -- what the columns ask
 pub record EqFits (cols : List (List Lit)) (counts : List ℕ) (g : EqInput) : Type 0 where
@@ -76,12 +56,10 @@ pub record EqFits (cols : List (List Lit)) (counts : List ℕ) (g : EqInput) : T
   pub y : g .y ≤ 1073741824
   pub vars : g .vars ≤ 1048576
   pub own : (i : ℕ) → AllLow (getD cols i [])
-  pub heights : CountsLow counts
   pub wide : (i : ℕ) → i < 32 → length (getD cols i []) ≡ 12
 
 -- a state within bounds: i columns passed, at most l literals and n clauses used
 pub record EqInBounds (l n i : ℕ) (s : EqState) : Type 0 where
-  pub not-tall : s .tall ≡ false
   pub live : s .dead ≡ false
   pub x : s .x ≤ 1073741824
   pub y : s .y ≤ 1073741824
@@ -99,16 +77,21 @@ pub record Carries : Type 0 where
   pub vars : ℕ
   pub dead : Bool
 
+-- ordering clauses before those of the columns after
 abbrev pub carries-then : Clauses → Carries → Carries
 carries-then cs r = record { sent = cs ++ r .sent; vars = r .vars; dead = r .dead }
 
+-- with its carry a column goes on to the next; a dead end leaves early
+abbrev pub carries-unless-dead : Option NewCarry → ℕ → (NewCarry → Carries) → Carries
+carries-unless-dead none v more = record { sent = []; vars = v; dead = true }
+carries-unless-dead (some next) v more = carries-then (ordering (next .lits)) (more next)
+
+-- w columns from the i-th on, with a carry of c literals
 abbrev pub carries-from : ℕ → ℕ → List ℕ → ℕ → ℕ → ℕ → ℕ → Carries
 carries-from zero i counts x y c v = record { sent = []; vars = v; dead = false }
 carries-from (suc w) i counts x y c v =
-    let n = (getD counts i 0 + c - (x + y) % 2) / 2 in
-    cond (leb ((x + y) % 2) (getD counts i 0 + c))
-    (carries-then (ordering (fresh n v)) (carries-from w (i + 1) counts ((x + 1) / 2) (y / 2) n (v + n)))
-    (record { sent = []; vars = v; dead = true })
+    carries-unless-dead (column-answer (getD counts i 0 + c) ((x + y) % 2) v) v
+    (λ next. carries-from w (i + 1) counts ((x + 1) / 2) (y / 2) (length (next .lits)) (next .vars))
 
 -- the columns' clauses, where none is a dead end
 abbrev pub columns-clauses : ℕ → ℕ → List (List Lit) → List ℕ → ℕ → ℕ → VarRange → ℕ → Clauses
@@ -122,21 +105,32 @@ columns-clauses (suc w) i cols counts x y p v =
 abbrev pub no-vars : VarRange
 no-vars = record { first = record { 0 = 0 }; count = 0 }
 
--- the ordering pass: too tall; or a dead end, with the empty clause; or neither
-pub record CarriesOrdered (d e counts : List ℕ) (g : EqInput) (a : Counts) (d′ e′ : List ℕ) (r : EqState) : Type 0 where
-  pub tall : r .tall ≡ not (eq-heights-fit (g .width - 1) 0 counts (g .x) (g .y) 0)
-  pub done : r .tall ≡ false
-      → (after d′ e′ (r .used) ≡ add-clauses 0 (carries-from (g .width - 1) 0 counts (g .x) (g .y) 0 (g .vars) .sent ++ cond (r .dead) ([] ∷ []) []) (after d e a))
-      × (r .dead ≡ carries-from (g .width - 1) 0 counts (g .x) (g .y) 0 (g .vars) .dead)
-      × (r .vars ≡ carries-from (g .width - 1) 0 counts (g .x) (g .y) 0 (g .vars) .vars)
-      × (r .used .lits ≤ a .lits + 312) × (r .used .clauses ≤ a .clauses + 157)
+-- the carries of all columns
+abbrev pub carries : List ℕ → EqInput → Carries
+carries counts g = carries-from (g .width - 1) 0 counts (g .x) (g .y) 0 (g .vars)
 
--- the whole: too tall, or all the clauses of the definition, in its order
+-- the definition's output for these columns
+abbrev pub eq-output : List (List Lit) → List ℕ → EqInput → Adder2Output
+eq-output cols counts g = output-at (g .width - 1) 0 cols counts (g .x) (g .y) no-vars (g .vars)
+
+-- the ordering pass: all ordering clauses; or those before a dead end, and the empty clause
+pub record CarriesOrdered (d e counts : List ℕ) (g : EqInput) (a : Counts) (d′ e′ : List ℕ) (r : EqState) : Type 0 where
+  pub stores : after d′ e′ (r .used) ≡ add-clauses 0 (carries counts g .sent ++ cond (r .dead) ([] ∷ []) []) (after d e a)
+  pub dead : r .dead ≡ carries counts g .dead
+  pub vars : r .vars ≡ carries counts g .vars
+  pub lits : r .used .lits ≤ a .lits + 312
+  pub clauses : r .used .clauses ≤ a .clauses + 157
+
+-- the whole: all the clauses of the definition, in its order, and its variables
 pub record EqAdded (d e : List ℕ) (cols : List (List Lit)) (counts : List ℕ) (g : EqInput) (a : Counts) (d′ e′ : List ℕ) (r : EqState) : Type 0 where
-  pub tall : r .tall ≡ not (eq-heights-fit (g .width - 1) 0 counts (g .x) (g .y) 0)
-  pub done : r .tall ≡ false
-      → (after d′ e′ (r .used) ≡ add-clauses 0 (adder2-clauses (output-at (g .width - 1) 0 cols counts (g .x) (g .y) no-vars (g .vars))) (after d e a))
-      × (r .vars ≡ output-at (g .width - 1) 0 cols counts (g .x) (g .y) no-vars (g .vars) .vars)
+  pub stores : after d′ e′ (r .used) ≡ add-clauses 0 (adder2-clauses (eq-output cols counts g)) (after d e a)
+  pub vars : r .vars ≡ eq-output cols counts g .vars
+
+-- what counting finds: the sizes of the clauses, the variables
+pub record EqCounted (cols : List (List Lit)) (counts : List ℕ) (g : EqInput) (a : Counts) (r : EqState) : Type 0 where
+  pub lits : r .used .lits ≡ a .lits + entries (adder2-clauses (eq-output cols counts g))
+  pub clauses : r .used .clauses ≡ a .clauses + length (adder2-clauses (eq-output cols counts g))
+  pub vars : r .vars ≡ eq-output cols counts g .vars
 
 -- The second pass ----------------------------------------------------------------------------------------------------
 
@@ -149,7 +143,7 @@ eq-carry-count h s = (h + s .carry .count - target-bit s) / 2
 
 abbrev pub next-state : ℕ → EqState → Counts → EqState
 next-state h s u =
-    record { x = (s .x + 1) / 2; y = s .y / 2; vars = s .vars + eq-carry-count h s; carry = record { first = record { 0 = s .vars }; count = eq-carry-count h s }; used = u; tall = false; dead = false }
+    record { x = (s .x + 1) / 2; y = s .y / 2; vars = s .vars + eq-carry-count h s; carry = record { first = record { 0 = s .vars }; count = eq-carry-count h s }; used = u; dead = false }
 
 -- the clauses cs are added, at most as many as a column has
 pub record Wrote (d e : List ℕ) (a : Counts) (cs : Clauses) (d′ e′ : List ℕ) (r : Counts) : Type 0 where
@@ -167,15 +161,3 @@ pub record EqColumnReady (ls : List Lit) (h : ℕ) (s : EqState) : Type 0 where
   pub own : AllLow ls
   pub lits : s .used .lits < 2 ^ 31
   pub clauses : s .used .clauses < 2 ^ 31
-
--- neither too tall nor a dead end
-pub record NotDead (counts : List ℕ) (g : EqInput) : Type 0 where
-  pub heights : eq-heights-fit (g .width - 1) 0 counts (g .x) (g .y) 0 ≡ true
-  pub live : carries-from (g .width - 1) 0 counts (g .x) (g .y) 0 (g .vars) .dead ≡ false
-
--- what counting finds: the same heights, the sizes of the clauses, the variables
-pub record EqCounted (cols : List (List Lit)) (counts : List ℕ) (g : EqInput) (a : Counts) (r : EqState) : Type 0 where
-  pub tall : r .tall ≡ not (eq-heights-fit (g .width - 1) 0 counts (g .x) (g .y) 0)
-  pub done : r .tall ≡ false
-      → let out = output-at (g .width - 1) 0 cols counts (g .x) (g .y) no-vars (g .vars) in
-      (r .used .lits ≡ a .lits + entries (adder2-clauses out)) × (r .used .clauses ≡ a .clauses + length (adder2-clauses out)) × (r .vars ≡ out .vars)

@@ -1,15 +1,17 @@
 // The adder of Eq, after `log_encoding_adder2` of log.rs. A call that is lent no entries only counts.
 ghost use mathlib.Core.Path.{_≡_};
-ghost use mathlib.Core.Bool.{false, true};
+ghost use mathlib.Core.Bool.{false, not, true};
 ghost use mathlib.Core.List.{[], _∷_, map};
 ghost use lib.ListN.{take};
 ghost use Prim.Native.Nat.{_+_, _-_, _*_, _/_, _^_, _≤_, _<_};
 ghost use Rattle.sat.specs.Fresh.{fresh};
 ghost use Rattle.clause_set.specs.Clause.{num};
 ghost use Rattle.clause_set.specs.Stores.{add-clauses, after, stores};
-ghost use Rattle.log_adder.specs.Adder2.{eq-column, ordering};
+ghost use Rattle.log_adder.specs.AdderState.{CountsLow};
+ghost use Rattle.log_adder.specs.Adder2.{column-answer, eq-column, ordering};
 ghost use Rattle.log_adder.specs.ColumnInfo.{ColumnSized, range-lits};
-ghost use Rattle.log_adder2.specs.EqState.{CarriesOrdered, CountsLow, EqAdded, EqColumnReady, EqCounted, EqFits, NotDead, Wrote, carries-from, columns-clauses, eq-carry-count, eq-column-clauses, eq-heights-fit, next-column, next-state, no-vars, target-bit};
+ghost use Rattle.log_adder.specs.Size.{eq-reached, too-tall};
+ghost use Rattle.log_adder2.specs.EqState.{CarriesOrdered, EqAdded, EqColumnReady, EqCounted, EqFits, Wrote, carries, carry-of, columns-clauses, eq-carry-count, eq-column-clauses, next-state, no-vars, target-bit};
 use clause_set::Clause;
 use clause_set::Counts;
 use log_adder::ColumnInfo;
@@ -31,20 +33,19 @@ pub struct EqInput {
     pub vars: u32,
 }
 
-// The state between two columns; or a column was too tall, or a dead end.
+// The state between two columns, or at a dead end.
 pub struct EqState {
     pub x: u32,
     pub y: u32,
     pub vars: u32,
     pub carry: VarRange,
     pub used: Counts,
-    pub tall: bool,
     pub dead: bool,
 }
 
 // The carry of a column but the last.
 fn next_carry(height: u32, odd: u32, vars: u32) -> Column
-    ensures { λ r. ⌜ r ≡ next-column height odd vars ⌝ }
+    ensures { λ r. ⌜ carry-of r ≡ column-answer height odd vars ⌝ }
 {
     if odd <= height {
         Column::Carry(Var(vars), (height - odd) / 2)
@@ -119,19 +120,10 @@ fn push_eq_column(
     )
 }
 
-// A column is too tall.
-fn too_tall(s: EqState) -> EqState
-    ensures { λ r. ⌜ r .tall ≡ true ⌝ }
-{
-    let mut r = s;
-    r.tall = true;
-    r
-}
-
 // A dead end: the empty clause.
 fn dead_end(lits: &mut [u32], ends: &mut [u32], s: EqState) -> EqState
     requires { ⌜ (s .used .lits < 2 ^ 31) × (s .used .clauses < 2 ^ 31) ⌝ }
-    ensures { λ r. ⌜ (r .dead ≡ true) × (r .tall ≡ s .tall) × (r .vars ≡ s .vars) × (after (now (lits .exit)) (now (ends .exit)) (r .used) ≡ add-clauses 0 ([] ∷ []) (after (now (lits .entry)) (now (ends .entry)) (s .used))) ⌝ }
+    ensures { λ r. ⌜ (r .dead ≡ true) × (r .vars ≡ s .vars) × (after (now (lits .exit)) (now (ends .exit)) (r .used) ≡ add-clauses 0 ([] ∷ []) (after (now (lits .entry)) (now (ends .entry)) (s .used))) ⌝ }
 {
     let mut r = s;
     let wrote = clause_set::push(lits, ends, Clause::empty(), 0, s.used);
@@ -143,7 +135,7 @@ fn dead_end(lits: &mut [u32], ends: &mut [u32], s: EqState) -> EqState
 // The ordering clauses of a column's carry, and the state after it.
 fn order_next(lits: &mut [u32], ends: &mut [u32], s: EqState, first: Var, n: u32) -> EqState
     requires { ⌜ (first .0 + n < 2 ^ 30) × (n ≤ 6) × (s .used .lits < 2 ^ 30 + 1000) × (s .used .clauses < 2 ^ 30 + 1000) × (s .x < 2 ^ 31) ⌝ }
-    ensures { λ r. ⌜ (r ≡ record { x = (s .x + 1) / 2; y = s .y / 2; vars = first .0 + n; carry = record { first = first; count = n }; used = r .used; tall = false; dead = false }) × (after (now (lits .exit)) (now (ends .exit)) (r .used) ≡ add-clauses 0 (ordering (fresh n (first .0))) (after (now (lits .entry)) (now (ends .entry)) (s .used))) ⌝ }
+    ensures { λ r. ⌜ (r ≡ record { x = (s .x + 1) / 2; y = s .y / 2; vars = first .0 + n; carry = record { first = first; count = n }; used = r .used; dead = false }) × (after (now (lits .exit)) (now (ends .exit)) (r .used) ≡ add-clauses 0 (ordering (fresh n (first .0))) (after (now (lits .entry)) (now (ends .entry)) (s .used))) ⌝ }
 {
     let used = push_ordering(lits, ends, first, n, s.used);
     EqState {
@@ -152,9 +144,34 @@ fn order_next(lits: &mut [u32], ends: &mut [u32], s: EqState, first: Var, n: u32
         vars: first.0 + n,
         carry: VarRange { first, count: n },
         used,
-        tall: false,
         dead: false,
     }
+}
+
+// Whether no column that the adder reaches has more than 12 literals; a dead end is the last that is reached.
+pub fn eq_heights_fit(counts: [u32; 32], width: usize, x: u32, y: u32) -> bool
+    requires { ⌜ (width ≤ 32) × (x < 2 ^ 31) × (y < 2 ^ 31) × CountsLow counts ⌝ }
+    ensures { λ r. ⌜ r ≡ not (too-tall (eq-reached (take width counts) x y 0)) ⌝ }
+{
+    let mut a = x;
+    let mut b = y;
+    let mut carry: u32 = 0;
+    let mut i: usize = 0;
+    while i < width {
+        let height = counts[i] + carry;
+        if 12 < height {
+            return false;
+        }
+        let odd = (a + b) % 2;
+        if height < odd {
+            return true;
+        }
+        carry = (height - odd) / 2;
+        a = (a + 1) / 2;
+        b = b / 2;
+        i += 1;
+    }
+    true
 }
 
 // The first pass: the ordering clauses of the carries, up to a dead end.
@@ -167,7 +184,7 @@ fn order_carries(
 ) -> EqState
     requires { ⌜ (1 ≤ g .width) × (g .width ≤ 26) × (g .x ≤ 1073741824) × (g .y ≤ 1073741824) × (g .vars ≤ 1048576) ⌝ }
     requires { ⌜ (at .lits ≤ 1073741824) × (at .clauses ≤ 1073741824) ⌝ }
-    requires { ⌜ CountsLow counts ⌝ }
+    requires { ⌜ too-tall (eq-reached (take (g .width) counts) (g .x) (g .y) 0) ≡ false ⌝ }
     ensures { λ r. ⌜ CarriesOrdered (now (lits .entry)) (now (ends .entry)) counts g at (now (lits .exit)) (now (ends .exit)) r ⌝ }
 {
     let last = g.width - 1;
@@ -180,26 +197,18 @@ fn order_carries(
             count: 0,
         },
         used: at,
-        tall: false,
         dead: false,
     };
     let mut i: usize = 0;
     while i < last {
         let carry = s.carry;
         let height = counts[i] + carry.count;
-        if 12 < height {
-            return too_tall(s);
-        }
         let odd = (s.x + s.y) % 2;
         let Column::Carry(first, n) = next_carry(height, odd, s.vars) else {
             return dead_end(lits, ends, s);
         };
         s = order_next(lits, ends, s, first, n);
         i += 1;
-    }
-    let carry = s.carry;
-    if 12 < counts[last] + carry.count {
-        return too_tall(s);
     }
     s
 }
@@ -267,7 +276,6 @@ fn add_next_column(
         vars: s.vars + n,
         carry: next,
         used,
-        tall: false,
         dead: false,
     }
 }
@@ -308,7 +316,8 @@ fn add_eq_columns(
     at: Counts,
 ) -> Counts
     requires { ⌜ EqFits cols counts g ⌝ }
-    requires { ⌜ NotDead counts g ⌝ }
+    requires { ⌜ too-tall (eq-reached (take (g .width) counts) (g .x) (g .y) 0) ≡ false ⌝ }
+    requires { ⌜ carries counts g .dead ≡ false ⌝ }
     requires { ⌜ (at .lits ≤ 1073742136) × (at .clauses ≤ 1073741981) ⌝ }
     ensures { λ r. ⌜ after (now (lits .exit)) (now (ends .exit)) r ≡ add-clauses 0 (columns-clauses (g .width - 1) 0 cols counts (g .x) (g .y) no-vars (g .vars)) (after (now (lits .entry)) (now (ends .entry)) at) ⌝ }
 {
@@ -322,7 +331,6 @@ fn add_eq_columns(
             count: 0,
         },
         used: at,
-        tall: false,
         dead: false,
     };
     let mut i: usize = 0;
@@ -335,7 +343,7 @@ fn add_eq_columns(
     add_last_column(lits, ends, own, counts[last], s)
 }
 
-// The adder of Eq: too tall, or all its clauses, the ordering clauses first; a dead end writes the empty clause in place of the columns'.
+// The adder of Eq: all its clauses, the ordering clauses first; a dead end writes the empty clause in place of the columns'.
 pub fn log_encoding_adder2(
     lits: &mut [u32],
     ends: &mut [u32],
@@ -345,13 +353,11 @@ pub fn log_encoding_adder2(
     at: Counts,
 ) -> EqState
     requires { ⌜ EqFits cols counts g ⌝ }
+    requires { ⌜ too-tall (eq-reached (take (g .width) counts) (g .x) (g .y) 0) ≡ false ⌝ }
     requires { ⌜ (at .lits ≤ 1073741824) × (at .clauses ≤ 1073741824) ⌝ }
     ensures { λ r. ⌜ EqAdded (now (lits .entry)) (now (ends .entry)) cols counts g at (now (lits .exit)) (now (ends .exit)) r ⌝ }
 {
     let s = order_carries(lits, ends, counts, g, at);
-    if s.tall {
-        return s;
-    }
     if s.dead {
         return s;
     }
@@ -371,6 +377,7 @@ pub fn count_adder2(
     at: Counts,
 ) -> EqState
     requires { ⌜ EqFits cols counts g ⌝ }
+    requires { ⌜ too-tall (eq-reached (take (g .width) counts) (g .x) (g .y) 0) ≡ false ⌝ }
     requires { ⌜ (at .lits ≤ 1073741824) × (at .clauses ≤ 1073741824) ⌝ }
     ensures { λ r. ⌜ (now (lits .exit) ≡ now (lits .entry)) × (now (ends .exit) ≡ now (ends .entry)) × EqCounted cols counts g at r ⌝ }
 {

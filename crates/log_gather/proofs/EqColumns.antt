@@ -13,9 +13,8 @@ use Rattle.log_adder.specs.declared.VarRange.{VarRange}
 use Rattle.log_adder.specs.ColumnInfo.{range-lits}
 use Rattle.sat.proofs.Fresh.{length-fresh}
 use Rattle.log_adder.specs.Adder2.{EqColumn, LastColumn, adder2, eq-columns, last-column}
-use Rattle.log_adder2.specs.EqState.{eq-heights-fit, output-at, own-at}
-use Rattle.log_adder2.proofs.OrderingPass.{heights-step}
-use Rattle.log_adder2.proofs.ColumnsPass.{not-tall}
+use Rattle.log_adder2.specs.EqState.{output-at, own-at}
+use Rattle.log_adder2.proofs.EqHeights.{column-fits, fits-step, tall-from}
 use Rattle.log_adder.specs.Gather.{Grid}
 use Rattle.log_gather.specs.Arrays.{Holds}
 
@@ -48,10 +47,10 @@ eq-columns-grid (d ∷ g) c x y =
 
 -- the adder over the arrays
 pub output-grid : (cols : List (List Lit)) (counts : List ℕ) (g : Grid) → Holds cols counts g
-    → (w i x y : ℕ) (p : VarRange) (v : ℕ) → i + w < 32 → eq-heights-fit w i counts x y (p .count) ≡ true
+    → (w i x y : ℕ) (p : VarRange) (v : ℕ) → i + w < 32 → tall-from counts (suc w) i x y (p .count) ≡ false
     → output-at w i cols counts x y p v ≡ adder2 (grid-eq-columns w i g x y) (grid-last-column w i g x y) (range-lits p) v
 output-grid cols counts g h zero i x y p v l k =
-    let hi = not-tall counts zero i x y (p .count) k in
+    let hi = column-fits counts 1 i x y (p .count) (omega arith) k in
     let n = h .count i (omega arith) in
     ap (λ (o : List ℕ). adder2 [] (record { own = o; plus = x; target = y }) (range-lits p) v) (h .own i (omega arith) (omega arith))
 output-grid cols counts g h (suc w) i x y p v l k =
@@ -59,7 +58,7 @@ output-grid cols counts g h (suc w) i x y p v l k =
     (λ q sh. output-grid cols counts g h w (i + 1) ((x + 1) / 2) (y / 2) q (v + q .count) (omega arith) sh)
   where
     hi : getD counts i 0 + p .count ≤ 12
-    hi = not-tall counts (suc w) i x y (p .count) k
+    hi = column-fits counts (suc (suc w)) i x y (p .count) (omega arith) k
 
     same : own-at cols counts i ≡ getD g i []
     same = let n = h .count i (omega arith) in let z = hi in h .own i (omega arith) (omega arith)
@@ -71,12 +70,12 @@ output-grid cols counts g h (suc w) i x y p v l k =
     carry = length-fresh (p .count) (p .first .0)
 
     go : (t : Bool) → leb ((x + y) % 2) (getD counts i 0 + p .count) ≡ t
-        → ((q : VarRange) → eq-heights-fit w (i + 1) counts ((x + 1) / 2) (y / 2) (q .count) ≡ true
+        → ((q : VarRange) → tall-from counts (suc w) (i + 1) ((x + 1) / 2) (y / 2) (q .count) ≡ false
         → output-at w (i + 1) cols counts ((x + 1) / 2) (y / 2) q (v + q .count) ≡ adder2 (grid-eq-columns w (i + 1) g ((x + 1) / 2) (y / 2)) (grid-last-column w (i + 1) g ((x + 1) / 2) (y / 2)) (range-lits q) (v + q .count))
         → output-at (suc w) i cols counts x y p v ≡ adder2 (grid-eq-columns (suc w) i g x y) (grid-last-column (suc w) i g x y) (range-lits p) v
     go true e more =
         let n : ℕ = (getD counts i 0 + p .count - (x + y) % 2) / 2 in
-        let sh : eq-heights-fit w (i + 1) counts ((x + 1) / 2) (y / 2) n ≡ true =
-        rw (sub-one (suc w)) at (sym (heights-step counts (suc w) i x y (p .count) (omega arith) hi (leb-true ((x + y) % 2) (getD counts i 0 + p .count) e)) ∙ k) in
+        let sh : tall-from counts (suc w) (i + 1) ((x + 1) / 2) (y / 2) n ≡ false =
+        rw (sub-one (suc (suc w))) at (sym (fits-step counts (suc (suc w)) i x y (p .count) (omega arith) hi (leb-true ((x + y) % 2) (getD counts i 0 + p .count) e)) ∙ k) in
         rw (same, size, carry, e, more (record { first = record { 0 = v }; count = n }) sh)
     go false e more = rw (same, size, carry, e)

@@ -1,18 +1,19 @@
 -- How many columns there are; and the arrays' columns are the grid's.
-use mathlib.Core.Path.{_≡_, refl, ap, _∙_}
-use mathlib.Core.Bool.{Bool, true, false, cond, _&&_}
+use mathlib.Core.Path.{_≡_, refl, ap, sym, _∙_}
+use mathlib.Core.Bool.{Bool, true, false, cond}
 use mathlib.Core.List.{List, [], _∷_, map}
 use Prim.Native.Nat.{ℕ, zero, suc, max, _+_, _-_, _/_, _%_, _≤_, _<_}
 use native.Mathlib.Nat.{not-suc-le-zero}
 use native.Mathlib.Numerals.{add-one, sub-one}
 use native.Mathlib.Omega.{arith}
-use borrow.Author.Tests.{leb-true}
-use lib.Dec.{eqb, leb}
+use lib.Dec.{eqb}
 use lib.ListN.{length, getD, take}
 use Rattle.sat.specs.declared.Lit.{Lit}
 use Rattle.log_adder.specs.ColumnInfo.{num}
-use Rattle.log_adder.specs.AdderState.{heights-fit, input-columns}
+use Rattle.log_adder.specs.AdderState.{input-columns}
 use Rattle.log_adder.specs.Gather.{Grid, push-scaled, push-value}
+use Rattle.log_adder.specs.Size.{input-shapes, reached, too-tall}
+use Rattle.log_adder.proofs.Heights.{column-fits, fits-step}
 use Rattle.log_gather.specs.Arrays.{Holds, grid-columns, widths}
 
 lay-length : (o : ℕ) (ls : List ℕ) (g : Grid) → length (push-value o ls g) ≡ max (length g) (o + length ls)
@@ -43,21 +44,15 @@ widths-end (suc f) k o n w h = absurd (not-suc-le-zero h)
 
 -- The arrays' columns ------------------------------------------------------------------------------------------
 
-and-first : (a b : Bool) → (a && b) ≡ true → a ≡ true
-and-first true b h = refl
-and-first false b h = h
-
-and-second : (a b : Bool) → (a && b) ≡ true → b ≡ true
-and-second true b h = h
-and-second false b h = let z : _≡_ {A = ℕ} 0 1 = cc in absurd (omega arith)
-
 -- where no column that is reached is too tall, the adder's columns are the grid's
 pub columns-grid : (cols : List (List Lit)) (counts : List ℕ) (g : Grid) → Holds cols counts g
-    → (w i k c : ℕ) → i + w ≤ 32 → heights-fit w i counts k c ≡ true → input-columns w i cols counts k ≡ grid-columns w i g k
+    → (w i k c : ℕ) → i + w ≤ 32 → too-tall (reached (input-shapes w i counts k) c) ≡ false → input-columns w i cols counts k ≡ grid-columns w i g k
 columns-grid cols counts g h zero i k c l s = refl
 columns-grid cols counts g h (suc w) i k c l s =
-    let t : getD counts i 0 + c ≤ 12 = leb-true (getD counts i 0 + c) 12 (and-first (leb (getD counts i 0 + c) 12) (heights-fit w (i + 1) counts (k / 2) ((k % 2 + getD counts i 0 + c) / 2)) s) in
+    let t : getD counts i 0 + c ≤ 12 = column-fits counts (suc w) i k c (omega arith) s in
     let n = h .count i (omega arith) in
     let e : map num (take (getD counts i 0) (getD cols i [])) ≡ getD g i [] = h .own i (omega arith) (omega arith) in
-    let r = columns-grid cols counts g h w (i + 1) (k / 2) ((k % 2 + getD counts i 0 + c) / 2) (omega arith) (and-second (leb (getD counts i 0 + c) 12) (heights-fit w (i + 1) counts (k / 2) ((k % 2 + getD counts i 0 + c) / 2)) s) in
+    let left : too-tall (reached (input-shapes w (i + 1) counts (k / 2)) ((k % 2 + getD counts i 0 + c) / 2)) ≡ false =
+    rw (sub-one (suc w)) at (sym (fits-step counts (suc w) i k c (omega arith) t) ∙ s) in
+    let r = columns-grid cols counts g h w (i + 1) (k / 2) ((k % 2 + getD counts i 0 + c) / 2) (omega arith) left in
     λ j. record { own = e j; constant = k % 2 } ∷ r j

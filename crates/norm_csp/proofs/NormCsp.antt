@@ -1,12 +1,12 @@
--- A book speaks of its own switches and settings only (`satisfied-agree`), and one setting more asks for its value (`one-more`,
--- `one-less`).
+-- A book speaks of its own switches and settings only (`satisfied-agree`); one setting more asks for its value (`one-more`, `one-less`),
+-- one rule more that it holds (`rule-more`, `rule-less`).
 use Prim.Native.Nat.{_*_, _+_, _<_, _≤_, ℕ}
 use lib.Dec.{eqb}
 use lib.IntN.{_*ℤ_, _+ℤ_, pos, ℤ}
 use lib.ListN.{List·getD-append, length, length-append}
 use lib.Seq.{getD-at}
 use mathlib.Core.Bool.{Bool, cond, false, true}
-use mathlib.Core.List.{List, [], _∷_}
+use mathlib.Core.List.{List, [], _++_, _∷_}
 use mathlib.Core.Path.{_∙_, _≡_, ap, ap₂, refl, subst, sym}
 use native.Mathlib.Omega.{arith}
 use borrow.Author.Tests.{eqb-false, eqb-true}
@@ -14,7 +14,7 @@ use Rattle.sat.specs.Clause.{Assignment}
 use Rattle.sat.specs.Encodes.{Agree}
 use Rattle.sat.proofs.Extend.{holds-agree}
 use Rattle.norm_csp.specs.Domain.{IntVarRepresentation, IsValue, binary, list, range}
-use Rattle.norm_csp.specs.NormCsp.{AllHold, Constraint, Holds, NormCsp, Satisfied, add-var, linear, mul, var-at}
+use Rattle.norm_csp.specs.NormCsp.{AllHold, Constraint, Holds, NormCsp, Satisfied, add-constraint, add-var, linear, mul, var-at}
 use Rattle.norm_csp.specs.Rules.{Compares, LinearTerm, linear-sum}
 
 -- What a book knows ---------------------------------------------------------------------------------------------------
@@ -66,7 +66,7 @@ module _ (n : ℕ) (f g : ℕ → ℤ) (same : (x : ℕ) → x < n → f x ≡ g
   sum-agree constant [] k = refl
   sum-agree constant (t ∷ ts) k = ap₂ (λ a b. t .coef *ℤ a +ℤ b) (same (t .var) (k .0)) (sum-agree constant ts (k .1))
 
-  holds-same : (c : Constraint) → KnownConstraint n c → Holds f c ≡ Holds g c
+  pub holds-same : (c : Constraint) → KnownConstraint n c → Holds f c ≡ Holds g c
   holds-same (linear op constant terms) k = ap (Compares op) (sum-agree constant terms k)
   holds-same (mul x y m) k = λ i. same x (k .0) i *ℤ same y (k .1) i ≡ same m (k .2) i
 
@@ -126,3 +126,27 @@ module _ (b : NormCsp) (r : IntVarRepresentation) where
     },
     subst (λ (w : IntVarRepresentation). IsValue α w (f (length (b .vars)))) new-var (s .values (length (b .vars)) (omega (arith, vars-more))),
   )
+
+-- One rule more -------------------------------------------------------------------------------------------------------
+
+knows-snoc : (n : ℕ) (cs : List Constraint) (c : Constraint) → KnownConstraints n cs → KnownConstraint n c → KnownConstraints n (cs ++ (c ∷ []))
+knows-snoc n [] c h k = (k, tt)
+knows-snoc n (d ∷ cs) c h k = (h .0, knows-snoc n cs c (h .1) k)
+
+hold-snoc : (f : ℕ → ℤ) (cs : List Constraint) (c : Constraint) → AllHold f cs → Holds f c → AllHold f (cs ++ (c ∷ []))
+hold-snoc f [] c h k = (k, tt)
+hold-snoc f (d ∷ cs) c h k = (h .0, hold-snoc f cs c (h .1) k)
+
+hold-split : (f : ℕ → ℤ) (cs : List Constraint) (c : Constraint) → AllHold f (cs ++ (c ∷ [])) → AllHold f cs × Holds f c
+hold-split f [] c h = (tt, h .0)
+hold-split f (d ∷ cs) c h = let (p, q) = hold-split f cs c (h .1) in ((h .0, p), q)
+
+module _ (b : NormCsp) (c : Constraint) where
+  pub rule-known : Known b → KnownConstraint (length (b .vars)) c → Known (add-constraint c b)
+  rule-known k n = record { vars = k .vars; constraints = knows-snoc (length (b .vars)) (b .constraints) c (k .constraints) n }
+
+  pub rule-more : (α : Assignment) (f : ℕ → ℤ) → Satisfied b α f → Holds f c → Satisfied (add-constraint c b) α f
+  rule-more α f s h = record { values = s .values; rules = hold-snoc f (b .constraints) c (s .rules) h }
+
+  pub rule-less : (α : Assignment) (f : ℕ → ℤ) → Satisfied (add-constraint c b) α f → Satisfied b α f × Holds f c
+  rule-less α f s = let (p, q) = hold-split f (b .constraints) c (s .rules) in (record { values = s .values; rules = p }, q)

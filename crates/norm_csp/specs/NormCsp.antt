@@ -27,6 +27,9 @@ begun n = record { switches = n; vars = []; constraints = [] }
 abbrev pub add-var : IntVarRepresentation → NormCsp → NormCsp
 add-var r b = record { switches = b .switches; vars = b .vars ++ (r ∷ []); constraints = b .constraints }
 
+abbrev pub add-constraint : Constraint → NormCsp → NormCsp
+add-constraint c b = record { switches = b .switches; vars = b .vars; constraints = b .constraints ++ (c ∷ []) }
+
 -- setting x of the book
 abbrev pub var-at : NormCsp → ℕ → IntVarRepresentation
 var-at b x = getD (b .vars) x (range (pos 0) (pos 0))

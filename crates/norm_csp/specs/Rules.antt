@@ -1,18 +1,31 @@
 -- The rules of the plain book, after `LinearLit` and `ExtraConstraint::Mul` of norm_csp/mod.rs: sums and products.
-use Prim.Native.Nat.{ℕ}
+use Prim.Native.Nat.{suc, zero, ℕ}
 use lib.IntN.{_*ℤ_, _+ℤ_, pos, ℤ}
 use lib.Signed.{_≤ℤ_}
 use mathlib.Core.List.{List, [], _∷_}
 use mathlib.Core.Path.{_≡_}
+use Rattle.arithmetic.specs.Integers.{up}
 
 -- document 01's operations 0 Eq, 1 Ne, 2 Ge
 pub data CmpOp : Type 0 where
   eq ne ge : CmpOp
 
+-- an operation by its number
+abbrev pub op-of : ℕ → CmpOp
+op-of zero = eq
+op-of (suc zero) = ne
+op-of (suc (suc n)) = ge
+
 -- a setting's number and its coefficient
 pub record LinearTerm : Type 0 where
   pub var : ℕ
   pub coef : ℤ
+
+-- a call's flat list of terms: setting, coefficient, in turn; a last setting without its coefficient is dropped
+abbrev pub terms-of : List ℤ → List LinearTerm
+terms-of [] = []
+terms-of (x ∷ []) = []
+terms-of (x ∷ k ∷ zs) = record { var = up x; coef = k } ∷ terms-of zs
 
 -- the constant plus every coefficient times its setting's number
 abbrev pub linear-sum : (ℕ → ℤ) → ℤ → List LinearTerm → ℤ

@@ -1,7 +1,7 @@
 -- `columns_check::run_adder` meets its contract.
-use mathlib.Core.Path.{refl}
+use mathlib.Core.Path.{refl, sym, _∙_}
 use native.Mathlib.Omega.{arith}
-use borrow.Author.Tests.{ltb-false}
+use borrow.Author.Tests.{ltb-false, not-false, not-true}
 use borrow.Author.Needs.{needs}
 use Rattle.columns_check.proofs.run_adder.Statement.{statement}
 use Rattle.columns_check.proofs.run_adder.Tie as tie
@@ -59,26 +59,11 @@ gather-requires c κs =
 number-requires-4 : tie.Need-number-requires-4
 number-requires-4 c κs = search needs
 
-results-requires : tie.Need-results-requires
-results-requires c κs = let s = c .before .before .before .before .before in omega (arith, ltb-false)
-
-nothing-requires : tie.Need-nothing-requires
-nothing-requires c κs = search needs
-
-log-encoding-adder-requires : tie.Need-log-encoding-adder-requires
-log-encoding-adder-requires c κs =
-    let s = c .before .before .before .before .before .before .before .before .before in
-    let g = c .before .before .before .before .before .gather .ensures in
-    let e = c .nothing .ensures in (
-      record {
-        width = omega (arith, ltb-false);
-        fewer = omega (arith, ltb-false);
-        own = g .arrays .low;
-        heights = λ i. let k = g .few i in omega arith;
-        results = c .before .before .before .results .ensures;
-      },
-      (omega (arith, ltb-false), omega (arith, e .1), omega (arith, e .0)),
-    )
+heights-fit-requires : tie.Need-heights-fit-requires
+heights-fit-requires c κs =
+    let s = c .before .before .before .before .before in
+    let g = c .before .gather .ensures in
+    (omega (arith, ltb-false), λ i. let k = g .few i in omega arith)
 
 slice-aggregate-show-3 : tie.Need-slice-aggregate-show-3
 slice-aggregate-show-3 c = search needs
@@ -86,14 +71,31 @@ slice-aggregate-show-3 c = search needs
 show-requires-3 : tie.Need-show-requires-3
 show-requires-3 c κs = search needs
 
-same-length : tie.Need-same-length
-same-length c = search needs
-
-same-length-2 : tie.Need-same-length-2
-same-length-2 c = search needs
-
 returns-3 : tie.Need-returns-3
 returns-3 c = search needs
+
+results-requires : tie.Need-results-requires
+results-requires c κs = let s = c .before .before .before .before .before .before .before in omega (arith, ltb-false)
+
+nothing-requires : tie.Need-nothing-requires
+nothing-requires c κs = search needs
+
+log-encoding-adder-requires : tie.Need-log-encoding-adder-requires
+log-encoding-adder-requires c κs =
+    let s = c .before .before .before .before .before .before .before .before .before .before .before in
+    let g = c .before .before .before .before .before .before .before .gather .ensures in
+    let e = c .nothing .ensures in (
+      record {
+        width = omega (arith, ltb-false);
+        fewer = omega (arith, ltb-false);
+        own = g .arrays .low;
+        results = c .before .before .before .results .ensures;
+      },
+      (
+        not-true _ (sym (c .before .before .before .before .before .heights-fit .ensures) ∙ not-false _ (c .before .before .before .before .if6 .left)),
+        (omega (arith, ltb-false), omega (arith, e .1), omega (arith, e .0)),
+      ),
+    )
 
 show-bits-requires : tie.Need-show-bits-requires
 show-bits-requires c κs = search needs
@@ -101,11 +103,11 @@ show-bits-requires c κs = search needs
 show-clauses-requires : tie.Need-show-clauses-requires
 show-clauses-requires c κs = search needs
 
-same-length-3 : tie.Need-same-length-3
-same-length-3 c = search needs
+same-length : tie.Need-same-length
+same-length c = search needs
 
-same-length-4 : tie.Need-same-length-4
-same-length-4 c = search needs
+same-length-2 : tie.Need-same-length-2
+same-length-2 c = search needs
 
 returns-4 : tie.Need-returns-4
 returns-4 c = search needs
@@ -131,16 +133,15 @@ run-adder-spec =
     add-gather
     gather-requires
     number-requires-4
+    heights-fit-requires
+    slice-aggregate-show-3
+    show-requires-3
+    returns-3
     results-requires
     nothing-requires
     log-encoding-adder-requires
-    slice-aggregate-show-3
-    show-requires-3
-    same-length
-    same-length-2
-    returns-3
     show-bits-requires
     show-clauses-requires
-    same-length-3
-    same-length-4
+    same-length
+    same-length-2
     returns-4)

@@ -1,6 +1,7 @@
 -- `columns_check::run_eq_adder` meets its contract.
+use mathlib.Core.Path.{sym, _∙_}
 use native.Mathlib.Omega.{arith}
-use borrow.Author.Tests.{ltb-false, eqb-false}
+use borrow.Author.Tests.{eqb-false, ltb-false, not-false, not-true}
 use borrow.Author.Needs.{needs}
 use Rattle.columns_check.proofs.run_eq_adder.Statement.{statement}
 use Rattle.columns_check.proofs.run_eq_adder.Tie as tie
@@ -35,26 +36,13 @@ returns c = search needs
 gather-requires : tie.Need-gather-requires
 gather-requires c κs = search needs
 
-nothing-requires : tie.Need-nothing-requires
-nothing-requires c κs = search needs
-
-log-encoding-adder2-requires : tie.Need-log-encoding-adder2-requires
-log-encoding-adder2-requires c κs =
-    let s = c .before .before .before .before .before .before .before .before in
-    let g = c .before .before .before .gather .ensures in
-    let e = c .nothing .ensures in (
-      record {
-        some = omega (arith, eqb-false);
-        width = omega (arith, ltb-false);
-        x = c .before .before .before .before .before .before .before .before .before .before .before .before .before .number3 .ensures;
-        y = c .before .before .before .before .before .before .before .before .before .before .before .before .number4 .ensures;
-        vars = omega (arith, ltb-false);
-        own = g .arrays .low;
-        heights = λ i. let k = g .few i in omega arith;
-        wide = g .arrays .wide;
-      },
-      (omega (arith, e .1), omega (arith, e .0)),
-    )
+eq-heights-fit-requires : tie.Need-eq-heights-fit-requires
+eq-heights-fit-requires c κs =
+    let s = c .before .before .before .before in
+    let g = c .gather .ensures in
+    let x = c .before .before .before .before .before .before .before .before .before .before .number3 .ensures in
+    let y = c .before .before .before .before .before .before .before .before .before .number4 .ensures in
+    (omega (arith, ltb-false), omega arith, omega arith, λ i. let k = g .few i in omega arith)
 
 slice-aggregate-show-2 : tie.Need-slice-aggregate-show-2
 slice-aggregate-show-2 c = search needs
@@ -62,14 +50,28 @@ slice-aggregate-show-2 c = search needs
 show-requires-2 : tie.Need-show-requires-2
 show-requires-2 c κs = search needs
 
-same-length : tie.Need-same-length
-same-length c = search needs
-
-same-length-2 : tie.Need-same-length-2
-same-length-2 c = search needs
-
 returns-2 : tie.Need-returns-2
 returns-2 c = search needs
+
+nothing-requires : tie.Need-nothing-requires
+nothing-requires c κs = search needs
+
+log-encoding-adder2-requires : tie.Need-log-encoding-adder2-requires
+log-encoding-adder2-requires c κs =
+    let s = c .before .before .before .before .before .before .before .before .before in
+    let g = c .before .before .before .before .before .gather .ensures in
+    let e = c .nothing .ensures in (
+      record {
+        some = omega (arith, eqb-false);
+        width = omega (arith, ltb-false);
+        x = c .before .before .before .before .before .before .before .before .before .before .before .before .before .before .before .number3 .ensures;
+        y = c .before .before .before .before .before .before .before .before .before .before .before .before .before .before .number4 .ensures;
+        vars = omega (arith, ltb-false);
+        own = g .arrays .low;
+        wide = g .arrays .wide;
+      },
+      (not-true _ (sym (c .before .before .before .before .eq-heights-fit .ensures) ∙ not-false _ (c .before .before .before .if7 .left)), (omega (arith, e .1), omega (arith, e .0))),
+    )
 
 slice-aggregate-show-3 : tie.Need-slice-aggregate-show-3
 slice-aggregate-show-3 c = search needs
@@ -83,11 +85,11 @@ show-number-requires c κs = search needs
 show-clauses-requires : tie.Need-show-clauses-requires
 show-clauses-requires c κs = search needs
 
-same-length-3 : tie.Need-same-length-3
-same-length-3 c = search needs
+same-length : tie.Need-same-length
+same-length c = search needs
 
-same-length-4 : tie.Need-same-length-4
-same-length-4 c = search needs
+same-length-2 : tie.Need-same-length-2
+same-length-2 c = search needs
 
 returns-3 : tie.Need-returns-3
 returns-3 c = search needs
@@ -106,17 +108,16 @@ run-eq-adder-spec =
     show-requires
     returns
     gather-requires
-    nothing-requires
-    log-encoding-adder2-requires
+    eq-heights-fit-requires
     slice-aggregate-show-2
     show-requires-2
-    same-length
-    same-length-2
     returns-2
+    nothing-requires
+    log-encoding-adder2-requires
     slice-aggregate-show-3
     show-requires-3
     show-number-requires
     show-clauses-requires
-    same-length-3
-    same-length-4
+    same-length
+    same-length-2
     returns-3)

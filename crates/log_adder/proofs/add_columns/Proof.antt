@@ -1,12 +1,12 @@
 -- `log_adder::add_columns` meets its contract.
-use mathlib.Core.Path.{_≡_, _∙_}
+use mathlib.Core.Path.{_≡_}
 use Prim.Native.Nat.{_-_}
 use native.Mathlib.Omega.{arith}
 use lib.ListN.{length}
 use borrow.Author.Needs.{needs}
 use Rattle.log_adder.proofs.add_columns.Statement.{statement}
 use Rattle.log_adder.proofs.add_columns.Tie as tie
-use Rattle.log_adder.proofs.AdderLoops.{Going, going-fits, going-end, going-start, going-tall, going-turn, not-both}
+use Rattle.log_adder.proofs.AdderLoops.{Going, going-end, going-high, going-start, going-turn}
 
 abbrev Inv-loop : tie.InvT-loop
 Inv-loop lits₀ ends₀ cols counts given width results s₀ k₀ i₀ lits ends s k i =
@@ -21,36 +21,13 @@ given-long c = c .good .1 .1 .1 .1 .0 .1 .0 .1
 loop-holds : tie.Need-loop-holds Inv-loop μ-loop
 loop-holds c =
     let s = c .before .before in
-    going-start (s .args .t3) (s .args .t4) (s .args .t5) (s .args .p .given) (s .args .p .width) (s .args .lits .now) (s .args .ends .now) (s .args .start) (s .args .p .constant) (s .pre .1 .0) (s .pre .1 .1)
+    going-start (s .args .t3) (s .args .t4) (s .args .t5) (s .args .p .given) (s .args .p .width) (s .args .lits .now) (s .args .ends .now) (s .args .start) (s .args .p .constant) (s .pre .1 .0) (s .pre .1 .1 .0) (s .pre .1 .1 .1)
 
 mul-height : tie.Need-mul-height Inv-loop μ-loop
 mul-height c = search needs
 
 array-read-height : tie.Need-array-read-height Inv-loop μ-loop
 array-read-height c = search needs
-
-add-if1 : tie.Need-add-if1 Inv-loop μ-loop
-add-if1 c =
-    let s = c .before .before .before .before .before .before in
-    let l = c .before .before .before .loop in
-    omega (arith, s .pre .0 .heights (l .i), l .inv .steady)
-
-too-tall-requires : tie.Need-too-tall-requires Inv-loop μ-loop
-too-tall-requires c κs = search needs
-
-same-length : tie.Need-same-length Inv-loop μ-loop
-same-length c = c .before .before .before .before .before .loop .inv .lits-long
-
-same-length-2 : tie.Need-same-length-2 Inv-loop μ-loop
-same-length-2 c = c .before .before .before .before .before .loop .inv .ends-long
-
-returns : tie.Need-returns Inv-loop μ-loop
-returns c =
-    let l = c .before .before .before .before .before .loop in
-    record {
-      tall = c .too-tall .ensures ∙ going-tall _ _ _ _ _ (l .inv) (c .before .before .before .before .loop-test .taken) (c .before .if1 .taken);
-      done = λ e. absurd (not-both _ (c .too-tall .ensures) e);
-    }
 
 mul-own : tie.Need-mul-own Inv-loop μ-loop
 mul-own c = search needs
@@ -66,15 +43,16 @@ array-copy-out-result c = search needs
 
 add-column-requires : tie.Need-add-column-requires Inv-loop μ-loop
 add-column-requires c κs =
-    let s = c .before .before .before .before .before .before .before .before .before .before .before in
-    let l = c .before .before .before .before .before .before .before .before .loop in (
+    let s = c .before .before .before .before .before .before .before .before in
+    let l = c .before .before .before .before .before .loop in
+    let h = c .before .before .before .before .loop-test .taken in (
       l .inv .steady,
       record {
-        high = c .before .before .before .before .if1 .left;
+        high = going-high _ _ _ _ _ (l .inv) h;
         bit = omega arith;
         result = s .pre .0 .results (l .i);
         own = s .pre .0 .own (l .i);
-        room = omega (arith, s .pre .0, l .inv, c .before .before .before .before .before .before .before .loop-test);
+        room = omega (arith, s .pre .0, l .inv, h);
       },
     )
 
@@ -86,25 +64,26 @@ loop-less c = search needs
 
 loop-again : tie.Need-loop-again Inv-loop μ-loop
 loop-again c =
-    let s = c .before .before .before .before .before .before .before .before .before .before .before .before .before .before .before .before in
-    let l = c .before .before .before .before .before .before .before .before .before .before .before .before .before .loop in
+    let s = c .before .before .before .before .before .before .before .before .before .before .before .before .before in
+    let l = c .before .before .before .before .before .before .before .before .before .before .loop in
     let w = c .before .before .before .before .add-column in
-    going-turn (s .args .t3) (s .args .t4) (s .args .t5) (s .args .p .given) (s .args .p .width) (l .inv) (c .before .before .before .before .before .before .before .before .before .before .before .before .loop-test .taken) (c .before .before .before .before .before .before .before .before .before .if1 .left)
+    going-turn (s .args .t3) (s .args .t4) (s .args .t5) (s .args .p .given) (s .args .p .width) (l .inv) (c .before .before .before .before .before .before .before .before .before .loop-test .taken)
     (omega (arith, given-long s, s .pre .0)) _ _ (w .result) (w .kept .0) (w .kept .1 .0) (w .ensures)
 
-same-length-3 : tie.Need-same-length-3 Inv-loop μ-loop
-same-length-3 c = c .before .loop .inv .lits-long
+same-length : tie.Need-same-length Inv-loop μ-loop
+same-length c = c .before .loop .inv .lits-long
 
-same-length-4 : tie.Need-same-length-4 Inv-loop μ-loop
-same-length-4 c = c .before .loop .inv .ends-long
+same-length-2 : tie.Need-same-length-2 Inv-loop μ-loop
+same-length-2 c = c .before .loop .inv .ends-long
 
-returns-2 : tie.Need-returns-2 Inv-loop μ-loop
-returns-2 c =
+returns : tie.Need-returns Inv-loop μ-loop
+returns c =
     let s = c .before .before .before .before in
     let l = c .before .loop in
     record {
-      tall = l .inv .steady .not-tall ∙ going-fits _ _ _ _ _ (l .inv) (c .loop-test .left);
-      done = λ e. (going-end _ _ _ _ _ (l .inv) (c .loop-test .left), l .inv .steady, omega (arith, l .inv, s .pre .1 .1, c .loop-test));
+      done = going-end _ _ _ _ _ (l .inv) (c .loop-test .left);
+      steady = l .inv .steady;
+      len = omega (arith, l .inv, s .pre .1 .1 .1, c .loop-test);
     }
 
 pub add-columns-spec : {M : Type 1} → statement M
@@ -116,11 +95,6 @@ add-columns-spec =
     loop-holds
     mul-height
     array-read-height
-    add-if1
-    too-tall-requires
-    same-length
-    same-length-2
-    returns
     mul-own
     array-copy-out-own
     mul-result
@@ -129,6 +103,6 @@ add-columns-spec =
     add-i
     loop-less
     loop-again
-    same-length-3
-    same-length-4
-    returns-2)
+    same-length
+    same-length-2
+    returns)

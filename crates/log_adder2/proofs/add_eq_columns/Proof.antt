@@ -2,10 +2,12 @@
 use mathlib.Core.Path.{_≡_, refl, _∙_}
 use Prim.Native.Nat.{_-_}
 use native.Mathlib.Omega.{arith}
+use lib.ListN.{length}
 use borrow.Author.Needs.{needs}
 use Rattle.log_adder2.proofs.add_eq_columns.Statement.{statement}
 use Rattle.log_adder2.proofs.add_eq_columns.Tie as tie
-use Rattle.log_adder2.proofs.ColumnsPass.{ColumnsLeft, not-tall, target-fits, columns-end, columns-start, columns-turn}
+use Rattle.log_adder2.proofs.ColumnsPass.{ColumnsLeft, columns-end, columns-high, columns-start, columns-turn, target-fits}
+use Rattle.log_adder2.proofs.EqHeights.{all-fit}
 
 abbrev Inv-loop : tie.InvT-loop
 Inv-loop lits₀ ends₀ cols counts last s₀ i₀ lits ends s i = ColumnsLeft cols counts last lits₀ ends₀ s₀ lits ends s i
@@ -13,14 +15,19 @@ Inv-loop lits₀ ends₀ cols counts last s₀ i₀ lits ends s i = ColumnsLeft 
 abbrev μ-loop : tie.MeasureT-loop
 μ-loop lits₀ ends₀ cols counts last s₀ i₀ lits ends s i = last - i
 
+counts-long : (c : tie.Start Inv-loop μ-loop) → length (c .args .t4) ≡ 32
+counts-long c = c .good .1 .1 .1 .0 .1 .0 .1
+
 sub-last : tie.Need-sub-last Inv-loop μ-loop
 sub-last c = let s = c .before .before .before in omega (arith, s .pre .0 .some)
 
 loop-holds : tie.Need-loop-holds Inv-loop μ-loop
 loop-holds c =
     let s = c .before .before .before in
-    columns-start (s .args .t3) (s .args .t4) (s .args .lits .now) (s .args .ends .now) (s .args .g) (s .args .at) (s .pre .1 .0)
-    (record { not-tall = refl; live = refl; x = s .pre .0 .x; y = s .pre .0 .y; vars = omega (arith, s .pre .0 .vars); carry = omega arith; few = omega arith; lits = omega arith; clauses = omega arith })
+    columns-start (s .args .t3) (s .args .t4) (s .args .lits .now) (s .args .ends .now) (s .args .g) (s .args .at)
+    (all-fit (s .args .t4) (s .args .g .width) (s .args .g .x) (s .args .g .y) (s .pre .0 .some) (omega (arith, counts-long s, s .pre .0 .width)) (s .pre .1 .0))
+    (s .pre .1 .1 .0)
+    (record { live = refl; x = s .pre .0 .x; y = s .pre .0 .y; vars = omega (arith, s .pre .0 .vars); carry = omega arith; few = omega arith; lits = omega arith; clauses = omega arith })
 
 mul-own : tie.Need-mul-own Inv-loop μ-loop
 mul-own c = search needs
@@ -40,14 +47,14 @@ add-next-column-requires c κs =
     let l = c .before .before .before .before .loop in
     let h = c .before .before .before .loop-test .taken in (
       record {
-        high = not-tall (s .args .t4) (s .args .g .width - 1 - l .i) (l .i) (l .s .x) (l .s .y) (l .s .carry .count) (l .inv .heights);
+        high = columns-high _ _ _ (l .inv);
         x = l .inv .level .x;
         y = l .inv .level .y;
         vars = omega (arith, l .inv .level, l .inv .within, s .pre .0 .width);
         first = omega (arith, l .inv .level, l .inv .within, s .pre .0 .width);
         own = s .pre .0 .own (l .i);
-        lits = omega (arith, l .inv .level .lits, l .inv .within, s .pre .0 .width, s .pre .1 .1);
-        clauses = omega (arith, l .inv .level .clauses, l .inv .within, s .pre .0 .width, s .pre .1 .1);
+        lits = omega (arith, l .inv .level .lits, l .inv .within, s .pre .0 .width, s .pre .1 .1 .1);
+        clauses = omega (arith, l .inv .level .clauses, l .inv .within, s .pre .0 .width, s .pre .1 .1 .1);
       },
       target-fits (s .args .t4) (s .args .g .width - 1 - l .i) (l .i) (l .s .x) (l .s .y) (l .s .carry .count) (l .s .vars) (omega arith) (l .inv .live),
     )
@@ -84,14 +91,14 @@ add-last-column-requires c κs =
     let e : l .i ≡ s .args .g .width - 1 = omega (arith, l .inv .within, c .before .before .before .loop-test) in
     rw (← e)
     (record {
-      high = not-tall (s .args .t4) (s .args .g .width - 1 - l .i) (l .i) (l .s .x) (l .s .y) (l .s .carry .count) (l .inv .heights);
+      high = columns-high _ _ _ (l .inv);
       x = l .inv .level .x;
       y = l .inv .level .y;
       vars = omega (arith, l .inv .level, l .inv .within, s .pre .0 .width);
       first = omega (arith, l .inv .level, l .inv .within, s .pre .0 .width);
       own = s .pre .0 .own (l .i);
-      lits = omega (arith, l .inv .level .lits, l .inv .within, s .pre .0 .width, s .pre .1 .1);
-      clauses = omega (arith, l .inv .level .clauses, l .inv .within, s .pre .0 .width, s .pre .1 .1);
+      lits = omega (arith, l .inv .level .lits, l .inv .within, s .pre .0 .width, s .pre .1 .1 .1);
+      clauses = omega (arith, l .inv .level .clauses, l .inv .within, s .pre .0 .width, s .pre .1 .1 .1);
     })
 
 same-length : tie.Need-same-length Inv-loop μ-loop

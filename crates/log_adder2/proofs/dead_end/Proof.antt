@@ -28,7 +28,7 @@ returns c =
     let s = c .before .before .before .before .before .before .before .before .before .before in
     let w = c .before .before .before .before .push in
     let e = c .before .before .before .before .before .empty .ensures .1 in
-    (refl, refl, refl, w .ensures ∙ ap (λ (q : List ℕ). add-clauses 0 (q ∷ []) (after (s .args .lits .now) (s .args .ends .now) (s .args .s .used))) e)
+    (refl, refl, w .ensures ∙ ap (λ (q : List ℕ). add-clauses 0 (q ∷ []) (after (s .args .lits .now) (s .args .ends .now) (s .args .s .used))) e)
 
 pub dead-end-spec : {M : Type 1} → statement M
 dead-end-spec = tie.close (tie.spec empty-requires push-requires same-length same-length-2 returns)
