@@ -1,7 +1,8 @@
 #!/usr/bin/env python3
 """Writes a random script of COUNT lines: scripts.py SEED COUNT [--kind KIND] [--show].
 
-With --show, every job ends in `show`, so that all records and entries are compared. Kinds:
+With --show, every job ends in `show`, so that all records and entries are compared. Words behind
+--without do not come up. Kinds:
   mixed     every call, mostly accepted ones, long runs on one job
   settings  ranges, lists, two values, with readings and clauses
   linear    sums;  eq, ne, ge one operation only
@@ -59,9 +60,10 @@ OPERATIONS = {"eq": (0,), "ne": (1,), "ge": (2,), "dead": (0,)}
 class Generator:
     """Draws calls for a job that it follows with the judge itself."""
 
-    def __init__(self, kind, rng, driver, show=False):
+    def __init__(self, kind, rng, driver, show=False, without=()):
         self.kind = kind
         self.show = show
+        self.without = without
         self.rng = rng
         self.script = Script(driver)
         self.lines = []
@@ -178,7 +180,8 @@ class Generator:
     def call_edge(self):
         """A call at or over a bound."""
         rng, job = self.rng, self.job
-        word = rng.choice(["range", "list", "binary", "linear", "mul", "read", "clause", "open"])
+        words = ["range", "list", "binary", "linear", "mul", "read", "clause", "open"]
+        word = rng.choice([w for w in words if w not in self.without])
         number = rng.choice([*arguments.EDGE_NUMBERS, job.count, max(0, job.count - 1)])
         if word == "range":
             return self.put(word, *arguments.edge_range(rng))
@@ -233,7 +236,8 @@ class Generator:
 
     def run(self, count):
         """Draws calls until there are enough lines."""
-        names, weights = zip(*WEIGHTS[self.kind].items())
+        kept = {n: w for n, w in WEIGHTS[self.kind].items() if n not in self.without}
+        names, weights = zip(*kept.items())
         self.fresh()
         while len(self.lines) < count:
             if self.crowded():
@@ -261,11 +265,13 @@ def main():
     parser.add_argument("count", type=int)
     parser.add_argument("--kind", choices=sorted(WEIGHTS), default="mixed")
     parser.add_argument("--show", action="store_true", help="end every job in `show`")
+    parser.add_argument("--without", nargs="*", default=[], metavar="WORD")
     add_driver_option(parser)
     options = parser.parse_args()
     driver = Driver(options.driver)
     rng = random.Random(f"{options.kind} {options.seed}")
-    for line in Generator(options.kind, rng, driver, options.show).run(options.count):
+    generator = Generator(options.kind, rng, driver, options.show, options.without)
+    for line in generator.run(options.count):
         print(line)
     driver.close()
 

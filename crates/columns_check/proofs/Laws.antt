@@ -77,10 +77,10 @@ pub few-more : {a b : ℕ} (counts : List ℕ) → a ≤ b → Few a counts → 
 few-more counts h f i = let k = f i in omega arith
 
 pub gathered-none : {cols : List (List Lit)} {counts : List ℕ} (at : ℕ) → Arrays cols (replicate 32 0) → Few 0 (replicate 32 0)
-    → counts ≡ replicate 32 0 → Gathered (144 * at) cols counts
+    → counts ≡ replicate 32 0 → Gathered (384 * at) cols counts
 gathered-none at a f e = rw e (record { arrays = a; few = few-more (replicate 32 0) (omega arith) f })
 
 pub gathered-more : {cols cols₁ : List (List Lit)} {counts counts₁ : List ℕ} {f : Grid → Grid} (at end : ℕ) → at < end
-    → Gathered (144 * at) cols counts → Pushed 144 cols counts f cols₁ counts₁ → Gathered (144 * end) cols₁ counts₁
+    → Gathered (384 * at) cols counts → Pushed 384 cols counts f cols₁ counts₁ → Gathered (384 * end) cols₁ counts₁
 gathered-more {counts₁ = counts₁} at end h g p =
-    record { arrays = p .arrays; few = few-more counts₁ (omega arith) (p .few (144 * at) (g .few)) }
+    record { arrays = p .arrays; few = few-more counts₁ (omega arith) (p .few (384 * at) (g .few)) }

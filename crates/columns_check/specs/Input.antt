@@ -19,6 +19,7 @@ pub record TermsRead (r : Terms) : Type 0 where
 pub record RowRead (at : ℕ) (r : Row) : Type 0 where
   pub low : AllLow (r .lits)
   pub len : r .len ≤ 12
+  pub coef : r .coef < 4096
   pub onward : at < r .end
   pub within : r .end ≤ 512
 

@@ -336,7 +336,7 @@ fn run_ge(nums: &[u32], lits: &mut [u32], ends: &mut [u32]) {
 
 // Literals and a coefficient by which they are gathered, and where the next begin, if they are within bounds.
 struct Row {
-    lits: [Lit; 12],
+    lits: [Lit; 32],
     len: usize,
     coef: u32,
     end: usize,
@@ -344,11 +344,11 @@ struct Row {
 }
 
 // n literals from `from` on.
-fn row_lits(nums: &[u32], from: usize, n: usize) -> [Lit; 12]
+fn row_lits(nums: &[u32], from: usize, n: usize) -> [Lit; 32]
     requires { ⌜ (n ≤ 12) × (from + n ≤ length (now nums)) ⌝ }
     ensures { λ r. ⌜ AllLow r ⌝ }
 {
-    let mut out = [Lit(0); 12];
+    let mut out = [Lit(0); 32];
     let mut i: usize = 0;
     while i < n {
         let l = Lit(number(nums, from + i));
@@ -366,7 +366,7 @@ fn read_row(nums: &[u32], at: usize) -> Row
     let len = number(nums, at + 1) as usize;
     if coef > 4095 || len > 12 || at + 2 + len > nums.len() {
         return Row {
-            lits: [Lit(0); 12],
+            lits: [Lit(0); 32],
             len: 0,
             coef: 0,
             end: at + 1,
@@ -402,14 +402,14 @@ fn rows_fit(nums: &[u32], from: usize) -> bool
 fn gather(nums: &[u32], from: usize, counts: &mut [u32; 32]) -> [[Lit; 12]; 32]
     requires { ⌜ (length (now nums) ≤ 512) × (from ≤ 512) ⌝ }
     requires { ⌜ now counts ≡ replicate 32 0 ⌝ }
-    ensures { λ r. ⌜ Gathered 100000 r (now (counts .exit)) ⌝ }
+    ensures { λ r. ⌜ Gathered 200000 r (now (counts .exit)) ⌝ }
 {
     let mut cols = log_gather::no_columns();
     let mut at = from;
     while at < nums.len() {
         let r = read_row(nums, at);
         let lits = r.lits;
-        let next = log_gather::push_scaled(cols, counts, lits, r.len, r.coef);
+        let next = log_gather::push_scaled(cols, counts, lits, r.len, r.coef, 12);
         cols = next;
         at = r.end;
     }

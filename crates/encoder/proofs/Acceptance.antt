@@ -1,9 +1,8 @@
 -- Where arguments are within bounds and there is room, a call is accepted.
-use mathlib.Core.Path.{_≡_, refl}
-use mathlib.Core.Bool.{Bool, cond, false, true}
-use mathlib.Core.List.{List, [], _++_, _∷_}
+use mathlib.Core.Path.{_≡_}
+use mathlib.Core.Bool.{false, true}
+use mathlib.Core.List.{List}
 use Prim.Native.Nat.{_+_, _<_, _≤_, ℕ}
-use native.Mathlib.Omega.{arith}
 use lib.Dec.{lit<}
 use lib.IntN.{ℤ}
 use lib.ListN.{getD, length}
@@ -13,35 +12,22 @@ use Rattle.norm_csp.specs.Domain.{IntVarRepresentation, binary, list, range}
 use Rattle.log_var.specs.EncodeVarLog.{encode-var-log}
 use Rattle.log_adder.specs.Size.{too-tall}
 use Rattle.encoder_env.specs.declared.EncoderEnv.{EncoderEnv}
-use Rattle.encoder_env.specs.WellFormed.{well-formed}
+use Rattle.encoder_env.specs.WellFormed.{stores-within, well-formed}
 use Rattle.encoder.specs.Calls.{all-bits, clause-outcome, open-outcome, read-outcome, setting-outcome, var-checks}
-use Rattle.encoder.specs.Outcome.{Check, status-of}
+use Rattle.encoder.specs.Outcome.{status-of}
+use Rattle.encoder.proofs.Statuses.{Numbered, then-rest}
 use Rattle.encoder.specs.Products.{mul-outcome, product-encoded, product-reached}
 use Rattle.encoder.specs.Sums.{coefs-fit, constant-fits, linear-outcome, settings-known, settings-rise, sum-encoded, sum-reached, terms-paired}
 
--- no number is 0
-Numbered : List Check → Type 0
-Numbered [] = Unit
-Numbered (c ∷ cs) = (0 < c .number) × Numbered cs
-
 numbered : (switches : ℕ) (repr : IntVarRepresentation) → Numbered (var-checks switches repr)
-unfolding Numbered
 numbered s (range low high) = (lit< tt, tt)
 numbered s (list ks) = (lit< tt, (lit< tt, (lit< tt, (lit< tt, tt))))
 numbered s (binary c f t) = (lit< tt, (lit< tt, (lit< tt, (lit< tt, tt))))
 
--- checks that all hold leave those after them
-then-rest : (cs ds : List Check) → Numbered cs → status-of cs ≡ 0 → status-of (cs ++ ds) ≡ status-of ds
-unfolding Numbered
-then-rest [] ds n h = refl
-then-rest (c ∷ cs) ds n h = go (c .holds) (status-of cs) (status-of (cs ++ ds)) (c .number) h (λ k. then-rest cs ds (n .1) k) (n .0) where
-  go : (t : Bool) (a b m : ℕ) → cond t a m ≡ 0 → (a ≡ 0 → b ≡ status-of ds) → 0 < m → cond t b m ≡ status-of ds
-  go true a b m e k p = k e
-  go false a b m e k p = absurd (omega arith)
-
 -- Open: at most 64 switches, stores within their bound, an entry for the leading 0
 pub open-accepted : (switches : ℕ) (lits ends : List ℕ)
     → switches ≤ 64 → length lits ≤ 16777216 → length ends ≤ 16777216 → 1 ≤ length ends → open-outcome switches lits ends .status ≡ 0
+unfolding stores-within
 open-accepted switches lits ends s l e f = rw (le-leb switches 64 s, le-leb (length lits) 16777216 l, le-leb (length ends) 16777216 e, le-leb 1 (length ends) f)
 
 -- A setting: a well-formed job, arguments within bounds, a free record, variables and entries enough

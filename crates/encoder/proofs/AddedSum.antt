@@ -4,7 +4,7 @@ use mathlib.Core.Bool.{_&&_, false, not, true}
 use mathlib.Core.List.{List, [], _∷_}
 use Prim.Native.Nat.{_%_, _*_, _+_, _<_, _≤_, suc, ℕ}
 use native.Mathlib.Omega.{arith}
-use lib.Dec.{eqb, leb, ltb}
+use lib.Dec.{eqb, leb, lit<, ltb}
 use lib.IntN.{negsuc, pos, ℤ}
 use lib.ListN.{length}
 use lib.Signed.{ltZ}
@@ -24,10 +24,10 @@ use Rattle.encoder_env.proofs.Records.{lits-known}
 use Rattle.encoder_env.proofs.Tests.{both, lez-read}
 use Rattle.encoder.specs.Adding.{grown}
 use Rattle.encoder.specs.Encoded.{LinearEncodes, RuleEncodes, number}
-use Rattle.encoder.specs.Outcome.{status-of}
-use Rattle.encoder.specs.Sums.{coef-at, coef-fits, coefs-fit, constant-fits, linear-checks, linear-outcome, setting-at, settings-known, settings-rise, sum-encoded, sum-reached, term-count, terms-paired}
+use Rattle.encoder.specs.Outcome.{check, status-of}
+use Rattle.encoder.specs.Sums.{argument-checks, coef-at, coef-fits, coefs-fit, constant-fits, linear-checks, linear-outcome, setting-at, setting-known, settings-known, settings-rise, sum-encoded, sum-reached, term-count, terms-paired}
 use Rattle.encoder.proofs.Adding.{RuleAdded, known, rule-encodes}
-use Rattle.encoder.proofs.Statuses.{passed}
+use Rattle.encoder.proofs.Statuses.{Numbered, both-lists, passed}
 
 -- Terms --------------------------------------------------------------------------------------------------------------
 
@@ -54,12 +54,13 @@ terms-at count (x ∷ k ∷ terms) h = (h 0 (omega arith), terms-at count terms 
         let f : 2 * suc i + 1 ≡ suc (suc (2 * i + 1)) = omega arith in
         rw e at (rw f at t)
 
-setting-below : (count : ℕ) (z : ℤ) → (lez (pos 0) z && ltZ z (pos count)) ≡ true → up z < count
+pub setting-below : (count : ℕ) (z : ℤ) → setting-known count z ≡ true → (up z < count) × (down z ≡ 0)
 setting-below count z h =
     let b = both (lez (pos 0) z) (ltZ z (pos count)) h in
-    omega (arith, lez-read (pos 0) z (b .0), less-read z (pos count) (record { lt = rw (b .1) tt }), apart-read z)
+    let p = lez-read (pos 0) z (b .0) in
+    (omega (arith, p, less-read z (pos count) (record { lt = rw (b .1) tt }), apart-read z), omega (arith, p, apart-read z))
 
-coef-small : (k : ℤ) → coef-fits k ≡ true → up k + down k ≤ 255
+pub coef-small : (k : ℤ) → coef-fits k ≡ true → up k + down k ≤ 255
 coef-small k h =
     let b = both (lez (negsuc 254) k && lez k (pos 255)) (not (eqz k (pos 0))) h in
     let c = both (lez (negsuc 254) k) (lez k (pos 255)) (b .0) in
@@ -70,7 +71,7 @@ terms-known count terms s c =
     terms-at count terms
     (λ i lt.
     record {
-      setting = setting-below count (setting-at terms i) (all-at (λ j. lez (pos 0) (setting-at terms j) && ltZ (setting-at terms j) (pos count)) (term-count terms) i s lt);
+      setting = setting-below count (setting-at terms i) (all-at (λ j. setting-known count (setting-at terms j)) (term-count terms) i s lt) .0;
       coef = coef-small (coef-at terms i) (all-at (λ j. coef-fits (coef-at terms j)) (term-count terms) i c lt);
     })
 
@@ -82,16 +83,16 @@ few-terms (x ∷ k ∷ terms) = omega (arith, few-terms terms)
 -- A sum that passed the checks ---------------------------------------------------------------------------------------
 
 module _ (env : EncoderEnv) (lits ends op : ℕ) (constant : ℤ) (terms : List ℤ) where
-  pub record SumKnown : Type 0 where
+  pub record ArgumentsKnown : Type 0 where
     pub holds : Kept env lits ends
     pub op-known : op < 3
     pub few : length terms ≤ 12
-    pub terms-are : AllKnown (env .count) (terms-of terms)
+    pub settings : settings-known (env .count) terms ≡ true
+    pub coefs : coefs-fit terms ≡ true
     pub constant-small : up constant + down constant ≤ 1000000
-    pub heights : too-tall (sum-reached env op constant terms) ≡ false
 
-  pub sum-known : status-of (linear-checks env lits ends op constant terms) ≡ 0 → SumKnown
-  sum-known h =
+  pub arguments-known : status-of (argument-checks env lits ends op constant terms) ≡ 0 → ArgumentsKnown
+  arguments-known h =
       let w = passed (well-formed env lits ends) _ 0 h in
       let o = passed (ltb op 3) _ 11 (w .1) in
       let p = passed (terms-paired terms) _ 8 (o .1) in
@@ -99,15 +100,32 @@ module _ (env : EncoderEnv) (lits ends op : ℕ) (constant : ℤ) (terms : List 
       let r = passed (settings-rise terms) _ 8 (s .1) in
       let c = passed (coefs-fit terms) _ 9 (r .1) in
       let k = passed (constant-fits constant) _ 10 (c .1) in
-      let t = passed (not (too-tall (sum-reached env op constant terms))) 0 12 (k .1) in
       let b = both (lez (negsuc 999999) constant) (lez constant (pos 1000000)) (k .0) in
       record {
         holds = kept env lits ends (w .0);
         op-known = ltb-true op 3 (o .0);
         few = leb-true (length terms) 12 (both (leb (length terms) 12) (eqb (length terms % 2) 0) (p .0) .0);
-        terms-are = terms-known (env .count) terms (s .0) (c .0);
+        settings = s .0;
+        coefs = c .0;
         constant-small = omega (arith, lez-read (negsuc 999999) constant (b .0), lez-read constant (pos 1000000) (b .1), apart-read constant);
-        heights = not-true (too-tall (sum-reached env op constant terms)) (t .0);
+      }
+
+  pub arguments-numbered : Numbered (argument-checks env lits ends op constant terms)
+  arguments-numbered = (lit< tt, (lit< tt, (lit< tt, (lit< tt, (lit< tt, (lit< tt, (lit< tt, tt)))))))
+
+  pub record SumKnown : Type 0 where
+    pub arguments : ArgumentsKnown
+    pub terms-are : AllKnown (env .count) (terms-of terms)
+    pub heights : too-tall (sum-reached env op constant terms) ≡ false
+
+  pub sum-known : status-of (linear-checks env lits ends op constant terms) ≡ 0 → SumKnown
+  sum-known h =
+      let b = both-lists (argument-checks env lits ends op constant terms) (check (not (too-tall (sum-reached env op constant terms))) 13 ∷ []) arguments-numbered h in
+      let a = arguments-known (b .0) in
+      record {
+        arguments = a;
+        terms-are = terms-known (env .count) terms (a .settings) (a .coefs);
+        heights = not-true (too-tall (sum-reached env op constant terms)) (passed (not (too-tall (sum-reached env op constant terms))) 0 12 (b .1) .0);
       }
 
   module _ (k : Kept env lits ends) where
@@ -126,10 +144,11 @@ module _ (env : EncoderEnv) (lits ends op : ℕ) (constant : ℤ) (terms : List 
       Encodes (env .variables) (out .vars) Any (λ α. LinearHolds (number env α) (op-of op) constant (terms-of terms)) (out .clauses))
   sum-encodes s =
       let ts = terms-of terms in
-      let small = offset-constant-small (int-map env) constant ts (in-bounds (s .holds) ts (s .terms-are)) in
+      let a = s .arguments in
+      let small = offset-constant-small (int-map env) constant ts (in-bounds (a .holds) ts (s .terms-are)) in
       let n = few-terms terms in
-      encode-linear-log-encodes (int-map env) constant (op-of op) ts (env .variables) (below (s .holds) ts (s .terms-are))
-      (omega (arith, small .0, s .constant-small, s .few)) (omega (arith, small .1, s .constant-small, s .few))
+      encode-linear-log-encodes (int-map env) constant (op-of op) ts (env .variables) (below (a .holds) ts (s .terms-are))
+      (omega (arith, small .0, a .constant-small, a .few)) (omega (arith, small .1, a .constant-small, a .few))
 
 -- An accepted sum ----------------------------------------------------------------------------------------------------
 
@@ -146,7 +165,7 @@ module _ (env : EncoderEnv) (lits ends : List ℕ) (op : ℕ) (constant : ℤ) (
       let out = sum-encoded env op constant terms in
       let a = known status env lits ends (out .clauses) (grown env (out .vars) (out .clauses)) h in
       let s = sum-known env (length lits) (length ends) op constant terms (a .passed-all) in
-      (s, record { holds = s .holds; accepted = a; says = sum-encodes env (length lits) (length ends) op constant terms s })
+      (s, record { holds = s .arguments .holds; accepted = a; says = sum-encodes env (length lits) (length ends) op constant terms s })
 
   encoded : RuleEncodes env (linear-outcome env lits ends op constant terms) Rule
   encoded h = rule-encodes status env lits ends (sum-encoded env op constant terms) Rule (sum-added h .1)

@@ -18,11 +18,11 @@ use Rattle.log_adder.specs.Adder2.{eq-column}
 use Rattle.log_adder.specs.Column.{column}
 use Rattle.clause_set.specs.Stores.{add-clause}
 use Rattle.log_var.specs.Record.{pad}
-use Rattle.encoder_env.specs.WellFormed.{all-below, bounds-hold, encoding-at, encoding-holds, eqz, is-spare, lez, record-holds, well-formed}
+use Rattle.encoder_env.specs.WellFormed.{all-below, bounds-hold, encoding-at, encoding-holds, eqz, is-spare, lez, record-holds, stores-within, well-formed}
 use Rattle.encoder.specs.Bench.{Barred, Row, RowHolds, all-barred, bench, outcome-of, row-test, same-lits, setting, stored, sum, table-test}
 
 bench-test : So (table-test bench)
-unfolding neg holds column eq-column enumerate bounded add-clause pad well-formed all-below record-holds is-spare encoding-holds bounds-hold lez eqz
+unfolding neg holds column eq-column enumerate bounded add-clause pad well-formed stores-within all-below record-holds is-spare encoding-holds bounds-hold lez eqz
 bench-test = refl
 
 same-lits-are : (xs ys : List ℕ) → So (same-lits xs ys) → xs ≡ ys

@@ -1,8 +1,10 @@
 pub mod Bench
 pub mod Statuses
+pub mod Answering
 pub mod Settings
 pub mod Acceptance
 pub mod Adding
 pub mod AddedSetting
 pub mod AddedSum
+pub mod SumCode
 pub mod AddedProduct

@@ -1,47 +1,42 @@
 -- What the leaf functions of a setting call say of its outcome.
-use mathlib.Core.Path.{_≡_, _∙_, ap, sym}
+use mathlib.Core.Path.{_≡_, _∙_, ap}
 use mathlib.Core.Bool.{_&&_, false≢true, true}
 use mathlib.Core.List.{List, [], _∷_}
 use Prim.Native.Nat.{_*_, _+_, _-_, _<_, _≤_, _^_, suc, ℕ}
 use lib.Dec.{leb, ltb}
-use lib.IntN.{negsuc, pos, ℤ}
+use lib.IntN.{pos, ℤ}
 use lib.ListN.{getD, length}
 use lib.Signed.{ltZ}
 use native.Mathlib.Numerals.{add-one}
 use native.Mathlib.Omega.{arith}
-use borrow.Author.Tests.{leb-true, ltb-true}
-use Rattle.sat.specs.Size.{entries}
+use borrow.Author.Tests.{ltb-true}
 use Rattle.clause_set.specs.declared.Counts.{Counts}
-use Rattle.clause_set.specs.Stores.{Stores, add-clauses, after}
-use Rattle.clause_set.proofs.Adding.{count-after, used-after}
+use Rattle.clause_set.specs.Stores.{after}
 use Rattle.norm_csp.proofs.NormCsp.{KnownVar}
 use Rattle.norm_csp.specs.Domain.{IntVarRepresentation, RisingFrom, binary, last-from, list, range}
 use Rattle.log_var.specs.Calls.{Ready, VarAdded}
-use Rattle.log_var.specs.EncodeVarLog.{encode-var-log}
+use Rattle.log_var.specs.EncodeVarLog.{EncodedVar as Out, encode-var-log}
 use Rattle.log_var.proofs.Bounds.{rising-last}
 use Rattle.log_var.proofs.Calls.{last-at}
 use Rattle.log_var.specs.declared.EncodedVar.{EncodedVar}
 use Rattle.encoder_env.specs.declared.EncoderEnv.{EncoderEnv}
-use Rattle.encoder_env.specs.WellFormed.{bounds-hold, lez, well-formed}
+use Rattle.encoder_env.specs.WellFormed.{bounds-hold, code-fits, in-range, lez, well-formed}
 use Rattle.encoder_env.proofs.Kept.{Kept, all-at, kept}
 use Rattle.encoder_env.proofs.Tests.{both, bounds-known, lt-lez, order-lez}
 use Rattle.encoder.specs.declared.Answer.{Answer}
-use Rattle.encoder.specs.Calls.{all-in-range, code-fits, in-range, rising, setting-checks, setting-outcome, with-encoding}
+use Rattle.encoder.specs.Calls.{all-in-range, rising, setting-checks, setting-outcome, with-encoding}
 use Rattle.encoder.specs.Adding.{space-checks}
 use Rattle.encoder.specs.Outcome.{Answers, status-of}
-use Rattle.encoder.specs.Sizes.{SizeOf, counts-of, job-after}
-use Rattle.encoder.proofs.Statuses.{accepts, passed, refuses}
+use Rattle.encoder.specs.Sizes.{CountsAfter, SizeOf, counts-of, job-after}
+use Rattle.encoder.proofs.Answering.{adding-refused, counted, counts-fit, with-space, without-space}
+use Rattle.encoder.proofs.Statuses.{passed}
 
 -- the counts after a setting that was added
 pub sized : (repr : IntVarRepresentation) (vars : ℕ) (at : Counts) (d e d₁ e₁ : List ℕ) (r : EncodedVar)
     → VarAdded repr vars (after d e at) r (after d₁ e₁ (r .used)) → SizeOf repr vars at r
 sized repr vars at d e d₁ e₁ r w =
-    let cs = encode-var-log repr vars .clauses in
-    record {
-      vars-are = w .vars-are;
-      lits-are = ap (λ (s : Stores). s .used) (w .stores) ∙ used-after 0 cs (after d e at);
-      clauses-are = ap (λ (s : Stores). s .count) (w .stores) ∙ count-after 0 cs (after d e at);
-    }
+    let n = counted (encode-var-log repr vars .clauses) at (r .used) d e d₁ e₁ (w .stores) in
+    record { vars-are = w .vars-are; lits-are = n .0; clauses-are = n .1 }
 
 -- a job with a free record, and arguments that the leaf function takes
 pub record Admitted (env : EncoderEnv) (lits ends : ℕ) (repr : IntVarRepresentation) : Type 0 where
@@ -75,10 +70,7 @@ range-admitted env lits ends low high h =
 -- of values in range and in order, the bounds ask for the code of the higher one
 pub bounds-code : (low high : ℤ) → in-range low ≡ true → in-range high ≡ true → lez low high ≡ true → bounds-hold low high ≡ code-fits low high
 unfolding bounds-hold
-bounds-code low high a b c =
-    let p = both (lez (negsuc 4094) low) (lez low (pos 4095)) a in
-    let q = both (lez (negsuc 4094) high) (lez high (pos 4095)) b in
-    rw (p .0, q .1, c)
+bounds-code low high a b c = rw (a, b, c)
 
 pub binary-admitted : (env : EncoderEnv) (lits ends c : ℕ) (f t : ℤ)
     → status-of (setting-checks env lits ends (binary c f t)) ≡ 0 → Admitted env lits ends (binary c f t)
@@ -165,47 +157,31 @@ admitted env lits ends (binary c f t) h = binary-admitted env lits ends c f t h
 
 module _ (env : EncoderEnv) (lits ends : List ℕ) (repr : IntVarRepresentation) (r : ℕ)
     (s : r ≡ status-of (setting-checks env (length lits) (length ends) repr)) where
+  abbrev out : Out
+  out = encode-var-log repr (env .variables)
+
   -- a check but for space fails
   pub setting-refused : (a : Answer) → (r ≡ 0 → ⊥) → a ≡ record { status = r; env = env; value = pos 0 } → Answers (setting-outcome env lits ends repr) a lits ends
-  setting-refused a h e = refuses r _ s env lits ends _ a h e
+  setting-refused a h e = adding-refused env lits ends (out .clauses) (with-encoding env out) _ r s a h e
 
   -- counting left the stores as they were, and gave the sizes
-  module _ (z : r ≡ 0) (size : EncodedVar) (m : SizeOf repr (env .variables) (counts-of env) size) (lits₁ ends₁ : List ℕ) (p : lits₁ ≡ lits) (q : ends₁ ≡ ends)
-      (t : ℕ) (u : t ≡ status-of (space-checks (size .vars) (size .used .lits) (size .used .clauses) (length lits₁) (length ends₁))) where
-    same-space : t ≡ status-of (space-checks (encode-var-log repr (env .variables) .vars) (env .literals + entries (encode-var-log repr (env .variables) .clauses)) (env .clauses + length (encode-var-log repr (env .variables) .clauses)) (length lits) (length ends))
-    same-space = rw (← p, ← q, ← m .vars-are, ← m .lits-are, ← m .clauses-are) u
-
-    -- there is no space
+  module _ (z : r ≡ 0) (vars : ℕ) (used : Counts) (m : CountsAfter (out .vars) (out .clauses) (counts-of env) vars used) (lits₁ ends₁ : List ℕ) (p : lits₁ ≡ lits) (q : ends₁ ≡ ends)
+      (t : ℕ) (u : t ≡ status-of (space-checks vars (used .lits) (used .clauses) (length lits₁) (length ends₁))) where
     pub setting-without-space : (a : Answer) → (t ≡ 0 → ⊥) → a ≡ record { status = t; env = env; value = pos 0 } → Answers (setting-outcome env lits ends repr) a lits₁ ends₁
-    setting-without-space a h e = rw (p, q) (accepts r _ s env lits ends _ a lits ends z (refuses t _ same-space env lits ends _ a h e))
+    setting-without-space a h e =
+        without-space env lits ends (out .clauses) (with-encoding env out) _ r s z vars used m lits₁ ends₁ p q t u a h e
 
     -- there is space
     module _ (y : t ≡ 0) (new : EncodedVar) (lits₂ ends₂ : List ℕ) (w : VarAdded repr (env .variables) (after lits₁ ends₁ (counts-of env)) new (after lits₂ ends₂ (new .used))) where
-      job-is : job-after env new ≡ with-encoding env (encode-var-log repr (env .variables))
+      job-is : job-after env new ≡ with-encoding env out
       job-is = let n = sized repr (env .variables) (counts-of env) lits₁ ends₁ lits₂ ends₂ new w in rw (n .vars-are, n .lits-are, n .clauses-are, w .encoding)
-
-      stores-are : after lits₂ ends₂ (new .used) ≡ add-clauses 0 (encode-var-log repr (env .variables) .clauses) (after lits ends (counts-of env))
-      stores-are = rw (← p, ← q) (w .stores)
 
       pub setting-added : (a : Answer) → a ≡ record { status = 0; env = job-after env new; value = pos 0 } → Answers (setting-outcome env lits ends repr) a lits₂ ends₂
       setting-added a e =
-          accepts r _ s env lits ends _ a lits₂ ends₂ z
-          (accepts t _ same-space env lits ends _ a lits₂ ends₂ y
-          (record {
-            status = ap (λ (x : Answer). x .status) e;
-            env = ap (λ (x : Answer). x .env) e ∙ job-is;
-            value = ap (λ (x : Answer). x .value) e;
-            lits = ap (λ (x : Stores). x .lits) stores-are;
-            ends = ap (λ (x : Stores). x .ends) stores-are;
-          }))
+          with-space env lits ends (out .clauses) (with-encoding env out) _ r s z vars used m lits₁ ends₁ p q t u y lits₂ ends₂ (new .used) (w .stores) a
+          (e ∙ ap (λ (job : EncoderEnv). record { status = 0; env = job; value = pos 0 }) job-is)
 
       -- and the counts are numbers of a u32
-      pub counts-fit : Kept env (length lits) (length ends) → (new .used .clauses < 2 ^ 32) × (new .used .lits < 2 ^ 32)
-      counts-fit k =
-          let cs = encode-var-log repr (env .variables) .clauses in
-          let n = sized repr (env .variables) (counts-of env) lits₁ ends₁ lits₂ ends₂ new w in
-          let v = passed (leb (encode-var-log repr (env .variables) .vars) 65535) _ 13 (sym same-space ∙ y) in
-          let b = both (leb (env .literals + entries cs) (length lits)) (leb (env .clauses + length cs + 1) (length ends)) (passed (leb (env .literals + entries cs) (length lits) && leb (env .clauses + length cs + 1) (length ends)) 0 14 (v .1) .0) in (
-            omega (arith, n .clauses-are, leb-true (env .clauses + length cs + 1) (length ends) (b .1), k .ends-max),
-            omega (arith, n .lits-are, leb-true (env .literals + entries cs) (length lits) (b .0), k .lits-max),
-          )
+      pub setting-counts-fit : Kept env (length lits) (length ends) → (new .used .clauses < 2 ^ 32) × (new .used .lits < 2 ^ 32)
+      setting-counts-fit k =
+          counts-fit env lits ends (out .clauses) (with-encoding env out) _ r s z vars used m lits₁ ends₁ p q t u y lits₂ ends₂ (new .used) (w .stores) k

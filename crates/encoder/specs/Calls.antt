@@ -1,19 +1,18 @@
 -- The outcome of each call on every input (document 01: operation by operation).
 use Prim.Native.Nat.{_*_, _+_, _-_, ℕ}
 use lib.Dec.{eqb, leb, ltb}
-use lib.IntN.{negsuc, pos, ℤ}
+use lib.IntN.{pos, ℤ}
 use lib.ListN.{getD, length, replicate, set}
 use lib.Signed.{ltZ}
 use mathlib.Core.Bool.{Bool, _&&_}
 use mathlib.Core.List.{List, [], _++_, _∷_}
-use Rattle.arithmetic.specs.Offset.{code, offset-of}
 use Rattle.norm_csp.specs.Domain.{IntVarRepresentation, binary, list, range}
 use Rattle.log_var.specs.EncodeVarLog.{EncodedVar, encode-var-log}
 use Rattle.log_var.specs.Record.{read-bytes, record-of}
 use Rattle.log_var.specs.declared.LogEncoding.{LogEncoding}
 use Rattle.clause_set.specs.Stores.{clause-at}
 use Rattle.encoder_env.specs.declared.EncoderEnv.{EncoderEnv}
-use Rattle.encoder_env.specs.WellFormed.{all-below, bounds-hold, encoding-at, lez, no-lit, well-formed}
+use Rattle.encoder_env.specs.WellFormed.{all-below, bounds-hold, code-fits, encoding-at, in-range, no-lit, stores-within, well-formed}
 use Rattle.encoder.specs.Adding.{adding, grown}
 use Rattle.encoder.specs.Outcome.{Check, Outcome, check, settled, status-of}
 
@@ -30,7 +29,7 @@ opened switches = record { switches = switches; variables = switches; clauses = 
 -- 2 over 64 switches; 1 a store over its bound; 15 no entry for the leading 0
 abbrev pub open-checks : ℕ → ℕ → ℕ → List Check
 open-checks switches lits ends =
-    check (leb switches 64) 2 ∷ check (leb lits 16777216 && leb ends 16777216) 1 ∷ check (leb 1 ends) 15 ∷ []
+    check (leb switches 64) 2 ∷ check (stores-within lits ends) 1 ∷ check (leb 1 ends) 15 ∷ []
 
 -- refused, the job is all 0; accepted, only the leading 0 is written
 abbrev pub open-outcome : ℕ → List ℕ → List ℕ → Outcome
@@ -57,19 +56,12 @@ clause-outcome env lits ends k = settled (status-of (clause-checks env (length l
 
 -- Settings -----------------------------------------------------------------------------------------------------------
 
-abbrev pub in-range : ℤ → Bool
-in-range z = lez (negsuc 4094) z && lez z (pos 4095)
-
 abbrev pub all-in-range : List ℤ → Bool
 all-in-range ks = all-below (length ks) (λ i. in-range (getD ks i (pos 0)))
 
 -- each value is below the next
 abbrev pub rising : List ℤ → Bool
 rising ks = all-below (length ks - 1) (λ i. ltZ (getD ks i (pos 0)) (getD ks (i + 1) (pos 0)))
-
--- high − offset at most 4,095
-abbrev pub code-fits : ℤ → ℤ → Bool
-code-fits low high = leb (code (offset-of low) high) 4095
 
 -- the checks of a setting call's own arguments
 abbrev pub var-checks : ℕ → IntVarRepresentation → List Check

@@ -1,32 +1,73 @@
 -- What a new setting takes, as the code holds it.
-use Prim.Native.Nat.{_+_, ℕ}
+use Prim.Native.Nat.{_+_, _≤_, ℕ}
+use lib.IntN.{ℤ}
 use lib.ListN.{length, set}
+use mathlib.Core.Bool.{false}
+use mathlib.Core.List.{List}
 use mathlib.Core.Path.{_≡_}
+use Rattle.arithmetic.specs.Integers.{down, up}
+use Rattle.sat.specs.Clause.{Clauses}
+use Rattle.sat.specs.Encoded.{EncodedRule}
 use Rattle.sat.specs.Size.{entries}
 use Rattle.clause_set.specs.declared.Counts.{Counts}
 use Rattle.norm_csp.specs.Domain.{IntVarRepresentation}
 use Rattle.log_var.specs.EncodeVarLog.{encode-var-log}
 use Rattle.log_var.specs.declared.EncodedVar.{EncodedVar}
+use Rattle.log_adder.specs.Size.{too-tall}
+use Rattle.log_linear.specs.declared.RuleCounts.{RuleCounts}
+use Rattle.log_sum.specs.Settings.{TermsReady}
 use Rattle.encoder_env.specs.declared.EncoderEnv.{EncoderEnv}
+use Rattle.encoder.specs.Sums.{sum-reached}
 
 -- the clauses and literals in use
 abbrev pub counts-of : EncoderEnv → Counts
 counts-of env = record { clauses = env .clauses; lits = env .literals }
 
--- the counts after the setting
-pub record SizeOf (repr : IntVarRepresentation) (vars : ℕ) (at : Counts) (r : EncodedVar) : Type 0 where
-  pub vars-are : r .vars ≡ encode-var-log repr vars .vars
-  pub lits-are : r .used .lits ≡ at .lits + entries (encode-var-log repr vars .clauses)
-  pub clauses-are : r .used .clauses ≡ at .clauses + length (encode-var-log repr vars .clauses)
+-- the variable count and the counts in use after these clauses
+pub record CountsAfter (vars : ℕ) (clauses : Clauses) (at : Counts) (v : ℕ) (used : Counts) : Type 0 where
+  pub vars-are : v ≡ vars
+  pub lits-are : used .lits ≡ at .lits + entries clauses
+  pub clauses-are : used .clauses ≡ at .clauses + length clauses
 
--- the job with the counts and the record of a new setting
-abbrev pub job-after : EncoderEnv → EncodedVar → EncoderEnv
-job-after env new =
+-- those after the setting
+abbrev pub SizeOf : IntVarRepresentation → ℕ → Counts → EncodedVar → Type 0
+SizeOf repr vars at r = CountsAfter (encode-var-log repr vars .vars) (encode-var-log repr vars .clauses) at (r .vars) (r .used)
+
+-- those after a rule
+abbrev pub RuleSize : EncodedRule → Counts → RuleCounts → Type 0
+RuleSize out at r = CountsAfter (out .vars) (out .clauses) at (r .vars) (r .used)
+
+-- what the leaf functions of a sum ask
+pub record SumReady (env : EncoderEnv) (op : ℕ) (constant : ℤ) (terms : List ℤ) (at : Counts) : Type 0 where
+  pub terms-ready : TermsReady (env .encodings) terms
+  pub constant-up : up constant ≤ 1000000
+  pub constant-down : down constant ≤ 1000000
+  pub vars-fit : env .variables ≤ 65535
+  pub lits-fit : at .lits ≤ 16777216
+  pub clauses-fit : at .clauses ≤ 16777216
+  pub heights : too-tall (sum-reached env op constant terms) ≡ false
+
+-- the job with these counts
+abbrev pub job-with : EncoderEnv → ℕ → Counts → EncoderEnv
+job-with env vars used =
     record {
       switches = env .switches;
-      variables = new .vars;
-      clauses = new .used .clauses;
-      literals = new .used .lits;
+      variables = vars;
+      clauses = used .clauses;
+      literals = used .lits;
+      count = env .count;
+      encodings = env .encodings;
+    }
+
+-- and with the record of a new setting
+abbrev pub job-after : EncoderEnv → EncodedVar → EncoderEnv
+job-after env new =
+    let job = job-with env (new .vars) (new .used) in
+    record {
+      switches = job .switches;
+      variables = job .variables;
+      clauses = job .clauses;
+      literals = job .literals;
       count = env .count + 1;
       encodings = set (env .encodings) (env .count) (new .encoding);
     }

@@ -5,14 +5,13 @@ use lib.IntN.{negsuc, pos, ℤ}
 use lib.ListN.{getD, length}
 use lib.Signed.{ltZ}
 use mathlib.Core.Bool.{Bool, _&&_, not}
-use mathlib.Core.List.{List, [], _∷_}
-use Rattle.arithmetic.specs.Integers.{down, up}
+use mathlib.Core.List.{List, [], _++_, _∷_}
 use Rattle.sat.specs.Encoded.{EncodedRule}
 use Rattle.norm_csp.specs.Rules.{op-of, terms-of}
 use Rattle.log_var.specs.Size.{setting-shape}
 use Rattle.log_adder.specs.Size.{Reached, too-tall}
-use Rattle.log_linear.specs.EncodeLinearLog.{encode-linear-log, offset-constant}
-use Rattle.log_linear.specs.Size.{linear-reached, term-shapes}
+use Rattle.log_linear.specs.EncodeLinearLog.{encode-linear-log}
+use Rattle.log_linear.specs.Size.{linear-log-reached}
 use Rattle.encoder_env.specs.declared.EncoderEnv.{EncoderEnv}
 use Rattle.encoder_env.specs.WellFormed.{all-below, eqz, int-map, lez, well-formed}
 use Rattle.encoder.specs.Adding.{adding, grown}
@@ -33,9 +32,12 @@ coef-at terms i = getD terms (2 * i + 1) (pos 0)
 abbrev pub terms-paired : List ℤ → Bool
 terms-paired terms = leb (length terms) 12 && eqb (length terms % 2) 0
 
--- every setting is one of the job's
+-- a setting is one of the job's
+abbrev pub setting-known : ℕ → ℤ → Bool
+setting-known count x = lez (pos 0) x && ltZ x (pos count)
+
 abbrev pub settings-known : ℕ → List ℤ → Bool
-settings-known count terms = all-below (term-count terms) (λ i. lez (pos 0) (setting-at terms i) && ltZ (setting-at terms i) (pos count))
+settings-known count terms = all-below (term-count terms) (λ i. setting-known count (setting-at terms i))
 
 -- strictly rising
 abbrev pub settings-rise : List ℤ → Bool
@@ -56,14 +58,12 @@ constant-fits k = lez (negsuc 999999) k && lez k (pos 1000000)
 
 -- the columns reached, over the bit counts and offsets of the settings
 abbrev pub sum-reached : EncoderEnv → ℕ → ℤ → List ℤ → List Reached
-sum-reached env op constant terms =
-    let k = offset-constant (int-map env) constant (terms-of terms) in
-    linear-reached (op-of op) (term-shapes (λ i. setting-shape (int-map env i)) (terms-of terms)) (up k) (down k)
+sum-reached env op constant terms = linear-log-reached (λ i. setting-shape (int-map env i)) (op-of op) constant (terms-of terms)
 
--- all checks but those of space: 12 operation unknown; 9 over six terms, or a setting lacking its coefficient; 8 a setting unknown;
--- 9 not strictly rising; 10 coefficient zero or outside; 11 constant outside; 13 a column above 12
-abbrev pub linear-checks : EncoderEnv → ℕ → ℕ → ℕ → ℤ → List ℤ → List Check
-linear-checks env lits ends op constant terms =
+-- 12 operation unknown; 9 over six terms, or a setting lacking its coefficient; 8 a setting unknown; 9 not strictly rising;
+-- 10 coefficient zero or outside; 11 constant outside
+abbrev pub argument-checks : EncoderEnv → ℕ → ℕ → ℕ → ℤ → List ℤ → List Check
+argument-checks env lits ends op constant terms =
     check (well-formed env lits ends) 1
     ∷ check (ltb op 3) 12
     ∷ check (terms-paired terms) 9
@@ -71,8 +71,12 @@ linear-checks env lits ends op constant terms =
     ∷ check (settings-rise terms) 9
     ∷ check (coefs-fit terms) 10
     ∷ check (constant-fits constant) 11
-    ∷ check (not (too-tall (sum-reached env op constant terms))) 13
     ∷ []
+
+-- all checks but those of space; 13 a column above 12
+abbrev pub linear-checks : EncoderEnv → ℕ → ℕ → ℕ → ℤ → List ℤ → List Check
+linear-checks env lits ends op constant terms =
+    argument-checks env lits ends op constant terms ++ (check (not (too-tall (sum-reached env op constant terms))) 13 ∷ [])
 
 -- the clauses of `encode-linear-log` and the variable count after them
 abbrev pub sum-encoded : EncoderEnv → ℕ → ℤ → List ℤ → EncodedRule

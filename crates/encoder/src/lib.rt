@@ -6,14 +6,20 @@ ghost use Prim.Native.Nat.{_+_, _^_, _<_};
 ghost use Rattle.norm_csp.specs.Domain.{binary, list, range};
 ghost use Rattle.log_var.specs.Calls.{Ready};
 ghost use Rattle.encoder.specs.Outcome.{Answers, status-of};
-ghost use Rattle.encoder.specs.Calls.{all-bits, all-in-range, clause-checks, clause-outcome, in-range, open-checks, open-outcome, opened, read-checks, read-outcome, rising, setting-checks, setting-outcome};
+ghost use Rattle.encoder.specs.Calls.{all-bits, all-in-range, clause-checks, clause-outcome, open-checks, open-outcome, opened, read-checks, read-outcome, rising, setting-checks, setting-outcome};
 ghost use Rattle.encoder.specs.Adding.{space-checks};
-ghost use Rattle.encoder.specs.Sizes.{SizeOf, counts-of, job-after};
+ghost use Rattle.encoder.specs.Sizes.{SizeOf, counts-of, job-after, job-with};
+
+pub mod sums; // sums.rt: the call for sums
+
 use clause_set::Counts;
 use clause_set::clause_part;
 use encoder_env::EncoderEnv;
 use encoder_env::bounds_hold;
+use encoder_env::in_range;
+use encoder_env::stores_within;
 use encoder_env::well_formed;
+use log_linear::RuleCounts;
 use log_var::EncodedVar;
 use log_var::LogEncoding;
 use sat::Lit;
@@ -63,10 +69,7 @@ fn open_status(switches: u32, lits: usize, ends: usize) -> u32
     if 64 < switches {
         return 2;
     }
-    if 16777216 < lits {
-        return 1;
-    }
-    if 16777216 < ends {
+    if !stores_within(lits, ends) {
         return 1;
     }
     if ends < 1 {
@@ -165,24 +168,43 @@ fn space_status(vars: u32, used: Counts, lits: usize, ends: usize) -> u32
     0
 }
 
+// The job with the counts after a call that adds.
+fn grown(env: EncoderEnv, vars: u32, used: Counts) -> EncoderEnv
+    requires { ⌜ (used .clauses < 2 ^ 32) × (used .lits < 2 ^ 32) ⌝ }
+    ensures { λ r. ⌜ r ≡ job-with env vars used ⌝ }
+{
+    let mut job = env;
+    job.variables = vars;
+    job.clauses = used.clauses as u32;
+    job.literals = used.lits as u32;
+    job
+}
+
 // The answer where a new setting is accepted.
 fn accepted(env: EncoderEnv, new: EncodedVar) -> Answer
     requires { ⌜ (env .count < 32) × (new .used .clauses < 2 ^ 32) × (new .used .lits < 2 ^ 32) ⌝ }
     ensures { λ r. ⌜ r ≡ record { status = 0; env = job-after env new; value = pos 0 } ⌝ }
 {
-    let used = new.used;
     let e = new.encoding;
     let at = env.count as usize;
     let mut encodings = env.encodings;
     encodings[at] = e;
-    let next = EncoderEnv {
-        switches: env.switches,
-        variables: new.vars,
-        clauses: used.clauses as u32,
-        literals: used.lits as u32,
-        count: env.count + 1,
-        encodings,
-    };
+    let mut next = grown(env, new.vars, new.used);
+    next.count = env.count + 1;
+    next.encodings = encodings;
+    Answer {
+        status: 0,
+        env: next,
+        value: 0,
+    }
+}
+
+// The answer where a rule is accepted.
+fn rule_accepted(env: EncoderEnv, new: RuleCounts) -> Answer
+    requires { ⌜ (new .used .clauses < 2 ^ 32) × (new .used .lits < 2 ^ 32) ⌝ }
+    ensures { λ r. ⌜ r ≡ record { status = 0; env = job-with env (new .vars) (new .used); value = pos 0 } ⌝ }
+{
+    let next = grown(env, new.vars, new.used);
     Answer {
         status: 0,
         env: next,
@@ -243,19 +265,6 @@ pub fn encode_range(
     }
     let new = log_var::encode_range(lits, ends, low, high, env.variables, at);
     accepted(env, new)
-}
-
-// Whether a value is within bounds.
-fn in_range(z: i32) -> bool
-    ensures { λ r. ⌜ r ≡ in-range z ⌝ }
-{
-    if z < -4095 {
-        return false;
-    }
-    if 4095 < z {
-        return false;
-    }
-    true
 }
 
 // The checks of two values, but for space.

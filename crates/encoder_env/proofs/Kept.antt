@@ -12,7 +12,7 @@ use Rattle.arithmetic.proofs.Bits.{bit-length-least}
 use Rattle.arithmetic.proofs.Offset.{offset-read}
 use Rattle.log_var.specs.declared.LogEncoding.{LogEncoding}
 use Rattle.encoder_env.specs.declared.EncoderEnv.{EncoderEnv}
-use Rattle.encoder_env.specs.WellFormed.{all-below, bounds-hold, encoding-at, encoding-holds, eqz, is-spare, record-holds, well-formed}
+use Rattle.encoder_env.specs.WellFormed.{all-below, bounds-hold, encoding-at, encoding-holds, eqz, is-spare, record-holds, stores-within, well-formed}
 use Rattle.encoder_env.proofs.Tests.{all-fail, both-l, both-r, bounds-known, eqz-true}
 
 pub record Kept (env : EncoderEnv) (lits ends : ℕ) : Type 0 where
@@ -27,7 +27,7 @@ pub record Kept (env : EncoderEnv) (lits ends : ℕ) : Type 0 where
   pub records : all-below 32 (record-holds env) ≡ true
 
 pub kept : (env : EncoderEnv) (lits ends : ℕ) → well-formed env lits ends ≡ true → Kept env lits ends
-unfolding well-formed
+unfolding well-formed stores-within
 kept env lits ends h =
     record {
       lits-max = leb-true lits 16777216 (search (both-l, both-r) depth 12);
@@ -42,7 +42,7 @@ kept env lits ends h =
     }
 
 pub well-formed-of : (env : EncoderEnv) (lits ends : ℕ) → Kept env lits ends → well-formed env lits ends ≡ true
-unfolding well-formed
+unfolding well-formed stores-within
 well-formed-of env lits ends k =
     rw (
       le-leb lits 16777216 (k .lits-max),

@@ -10,7 +10,7 @@ use lib.ListN.{getD, length, replicate, take}
 use lib.Signed.{_≤ℤ_}
 use borrow.Author.Tests.{eq-eqb, le-leb, lt-ltb, ltb-false, ltb-true}
 use Rattle.arithmetic.specs.Bits.{bit-length}
-use Rattle.arithmetic.specs.Integers.{down}
+use Rattle.arithmetic.specs.Integers.{down, up}
 use Rattle.arithmetic.specs.Offset.{code, offset-of}
 use Rattle.arithmetic.proofs.Integers.{apart-read, order-read}
 use Rattle.sat.specs.Encodes.{LitsBelow}
@@ -21,7 +21,7 @@ use Rattle.log_var.proofs.Bounds.{Recorded, codes-fit}
 use Rattle.log_var.specs.Record.{lit, lits-of, pad, record-of}
 use Rattle.log_var.specs.declared.LogEncoding.{LogEncoding as Encoding}
 use Rattle.encoder_env.specs.declared.EncoderEnv.{EncoderEnv}
-use Rattle.encoder_env.specs.WellFormed.{all-below, bounds-hold, encoding-at, encoding-holds, eqz, is-spare, lit-fits, lits-fit, no-lit, record-holds}
+use Rattle.encoder_env.specs.WellFormed.{all-below, bounds-hold, encoding-at, encoding-holds, eqz, in-range, is-spare, lit-fits, lits-fit, no-lit, record-holds}
 use Rattle.encoder_env.proofs.Kept.{Kept, all-at, holds-in-use, in-use}
 use Rattle.encoder_env.proofs.Tests.{both-l, both-r, eqz-refl, order-lez}
 
@@ -38,23 +38,26 @@ each-below v zero ls h = tt
 each-below v (suc n) [] h = tt
 each-below v (suc n) (l ∷ ls) h = (h 0 (omega arith), each-below v n ls (λ i k. h (suc i) (omega arith)))
 
-known-lits : (v : ℕ) (e : Encoding) → e .len ≤ 12 → lits-fit v (e .len) (e .lits) ≡ true → LitsBelow v (lits-of e)
-known-lits v e n h = each-below v (e .len) (e .lits) at
+fit-below : (v : ℕ) (e : Encoding) → e .len ≤ 12 → lits-fit v (e .len) (e .lits) ≡ true → (i : ℕ) → i < e .len → getD (e .lits) i no-lit .0 < 2 * v
+fit-below v e n h i k = go (ltb i (e .len)) (lt-ltb i (e .len) k) (all-at (lit-fits v (e .len) (e .lits)) 12 i h (omega arith))
   where
-    go : (i : ℕ) (t : Bool) → t ≡ true → cond t (ltb (getD (e .lits) i no-lit .0) (2 * v)) (eqb (getD (e .lits) i no-lit .0) 0) ≡ true → getD (e .lits) i no-lit .0 < 2 * v
-    go i true k l = ltb-true (getD (e .lits) i no-lit .0) (2 * v) l
-    go i false k l = absurd (false≢true k)
-
-    at : (i : ℕ) → i < e .len → getD (e .lits) i no-lit .0 < 2 * v
-    at i k = go i (ltb i (e .len)) (lt-ltb i (e .len) k) (all-at (lit-fits v (e .len) (e .lits)) 12 i h (omega arith))
+    go : (t : Bool) → t ≡ true → cond t (ltb (getD (e .lits) i no-lit .0) (2 * v)) (eqb (getD (e .lits) i no-lit .0) 0) ≡ true → getD (e .lits) i no-lit .0 < 2 * v
+    go true k l = ltb-true (getD (e .lits) i no-lit .0) (2 * v) l
+    go false k l = absurd (false≢true k)
 
 -- the literals of a record in use are below 2 × variables
-pub lits-known : (env : EncoderEnv) (lits ends x : ℕ) → Kept env lits ends → x < env .count → LitsBelow (env .variables) (lits-of (encoding-at env x))
-unfolding encoding-holds
-lits-known env lits ends x k h =
-    let e = encoding-at env x in
-    known-lits (env .variables) e (in-use env lits ends x k h .len-max)
-    (both-r (bounds-hold (e .low) (e .high) && eqz (e .offset) (offset-of (e .low)) && eqb (e .len) (bit-length (code (offset-of (e .low)) (e .high)))) _ (holds-in-use env lits ends x k h))
+module _ (env : EncoderEnv) (lits ends x : ℕ) (k : Kept env lits ends) (h : x < env .count) where
+  abbrev e : Encoding
+  e = encoding-at env x
+
+  pub lit-known : (i : ℕ) → i < e .len → getD (e .lits) i no-lit .0 < 2 * env .variables
+  unfolding encoding-holds
+  lit-known =
+      fit-below (env .variables) e (in-use env lits ends x k h .len-max)
+      (both-r (bounds-hold (e .low) (e .high) && eqz (e .offset) (offset-of (e .low)) && eqb (e .len) (bit-length (code (offset-of (e .low)) (e .high)))) _ (holds-in-use env lits ends x k h))
+
+  pub lits-known : LitsBelow (env .variables) (lits-of e)
+  lits-known = each-below (env .variables) (e .len) (e .lits) lit-known
 
 -- more variables
 lits-more : (v w len : ℕ) (ls : List Lit) → v ≤ w → lits-fit v len ls ≡ true → lits-fit w len ls ≡ true
@@ -116,9 +119,19 @@ padded-fit v ls b = all-true (lit-fits v (length ls) (pad ls)) 12 (λ i k. go i 
 bounds-of : (low high : ℤ) → low ≤ℤ high → down low ≤ 4095 → code (offset-of low) high < 4096 → bounds-hold low high ≡ true
 unfolding bounds-hold
 bounds-of low high h d c =
-    let above : negsuc 4094 ≤ℤ low = order-read (negsuc 4094) low .1 (omega (arith, apart-read low)) in
-    let under : high ≤ℤ pos 4095 = order-read high (pos 4095) .1 (omega (arith, codes-fit low high h c d .high-up)) in
-    rw (order-lez (negsuc 4094) low above, order-lez low high h, order-lez high (pos 4095) under, le-leb (code (offset-of low) high) 4095 (omega (arith, c)))
+    let k = codes-fit low high h c d in
+    rw (
+      within low (omega (arith, apart-read low)) (omega (arith, k .low-up)),
+      within high (omega (arith, apart-read low, apart-read high, order-read low high .0 h)) (omega (arith, k .high-up)),
+      order-lez low high h,
+      le-leb (code (offset-of low) high) 4095 (omega (arith, c)),
+    )
+  where
+    within : (z : ℤ) → down z ≤ 4095 → up z ≤ 4095 → in-range z ≡ true
+    within z p q =
+        let above : negsuc 4094 ≤ℤ z = order-read (negsuc 4094) z .1 (omega (arith, apart-read z)) in
+        let under : z ≤ℤ pos 4095 = order-read z (pos 4095) .1 (omega (arith, apart-read z)) in
+        rw (order-lez (negsuc 4094) z above, order-lez z (pos 4095) under)
 
 -- the record of a setting that passed the checks
 pub record-fits : (v : ℕ) (e : LogEncoding) → Recorded e → LitsBelow v (e .lits) → encoding-holds v (record-of e) ≡ true

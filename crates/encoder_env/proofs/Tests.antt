@@ -15,7 +15,7 @@ use Rattle.arithmetic.specs.Integers.{down, up}
 use Rattle.arithmetic.specs.Offset.{code, offset-of}
 use Rattle.arithmetic.proofs.Integers.{apart-read, order-read}
 use Rattle.arithmetic.proofs.Offset.{offset-read}
-use Rattle.encoder_env.specs.WellFormed.{all-below, bounds-hold, eqz, lez}
+use Rattle.encoder_env.specs.WellFormed.{all-below, bounds-hold, code-fits, eqz, in-range, lez}
 
 leb-ltb : (a b : ℕ) → leb a b ≡ not (ltb b a)
 leb-ltb a b = go (ltb b a) refl where
@@ -123,11 +123,30 @@ pub record Coded (offset high : ℤ) : Type 0 where
   pub high-small : up high < 1073741824
   pub offset-small : down offset < 1073741824
 
-pub coded : (low high : ℤ) → lez (negsuc 4094) low ≡ true → lez low high ≡ true → lez high (pos 4095) ≡ true → Coded (offset-of low) high
+pub both : (a b : Bool) → (a && b) ≡ true → (a ≡ true) × (b ≡ true)
+both true b h = (refl, h)
+both false b h = absurd (false≢true h)
+
+pub both-l : (a b : Bool) → (a && b) ≡ true → a ≡ true
+both-l a b h = both a b h .0
+
+pub both-r : (a b : Bool) → (a && b) ≡ true → b ≡ true
+both-r a b h = both a b h .1
+
+-- the tests that the bounds of a setting are made of
+pub bounds-parts : (low high : ℤ) → bounds-hold low high ≡ true → (in-range low ≡ true) × (in-range high ≡ true) × (lez low high ≡ true) × (code-fits low high ≡ true)
+unfolding bounds-hold
+bounds-parts low high h =
+    let p = both (in-range low && in-range high && lez low high) (code-fits low high) h in
+    let q = both (in-range low && in-range high) (lez low high) (p .0) in
+    let r = both (in-range low) (in-range high) (q .0) in
+    (r .0, r .1, q .1, p .1)
+
+pub coded : (low high : ℤ) → in-range low ≡ true → in-range high ≡ true → lez low high ≡ true → Coded (offset-of low) high
 coded low high a b c =
-    let p = lez-read (negsuc 4094) low a in
-    let q = lez-read low high b in
-    let r = lez-read high (pos 4095) c in
+    let p = lez-read (negsuc 4094) low (both-l (lez (negsuc 4094) low) (lez low (pos 4095)) a) in
+    let q = lez-read low high c in
+    let r = lez-read high (pos 4095) (both-r (lez (negsuc 4094) high) (lez high (pos 4095)) b) in
     let o = offset-read low in
     record {
       above = order-read (offset-of low) high .1 (omega (arith, p, q, r, o, apart-read low, apart-read high));
@@ -135,23 +154,8 @@ coded low high a b c =
       offset-small = omega (arith, p, o, apart-read low);
     }
 
-pub both : (a b : Bool) → (a && b) ≡ true → (a ≡ true) × (b ≡ true)
-both true b h = (refl, h)
-both false b h = absurd (false≢true h)
-
 pub bounds-coded : (low high : ℤ) → bounds-hold low high ≡ true → Coded (offset-of low) high
-unfolding bounds-hold
-bounds-coded low high h =
-    let p = both (lez (negsuc 4094) low && lez low high && lez high (pos 4095)) (leb (code (offset-of low) high) 4095) h in
-    let q = both (lez (negsuc 4094) low && lez low high) (lez high (pos 4095)) (p .0) in
-    let r = both (lez (negsuc 4094) low) (lez low high) (q .0) in
-    coded low high (r .0) (r .1) (q .1)
-
-pub both-l : (a b : Bool) → (a && b) ≡ true → a ≡ true
-both-l a b h = both a b h .0
-
-pub both-r : (a b : Bool) → (a && b) ≡ true → b ≡ true
-both-r a b h = both a b h .1
+bounds-coded low high h = let p = bounds-parts low high h in coded low high (p .0) (p .1) (p .2)
 
 -- what the bounds of a setting say
 pub record Bounds (low high : ℤ) : Type 0 where
@@ -160,13 +164,10 @@ pub record Bounds (low high : ℤ) : Type 0 where
   pub code-max : code (offset-of low) high ≤ 4095
 
 pub bounds-known : (low high : ℤ) → bounds-hold low high ≡ true → Bounds low high
-unfolding bounds-hold
 bounds-known low high h =
-    let p = both (lez (negsuc 4094) low && lez low high && lez high (pos 4095)) (leb (code (offset-of low) high) 4095) h in
-    let q = both (lez (negsuc 4094) low && lez low high) (lez high (pos 4095)) (p .0) in
-    let r = both (lez (negsuc 4094) low) (lez low high) (q .0) in
+    let p = bounds-parts low high h in
     record {
-      ordered = order-read low high .1 (lez-read low high (r .1));
-      low-max = omega (arith, lez-read (negsuc 4094) low (r .0), apart-read low);
-      code-max = leb-true (code (offset-of low) high) 4095 (p .1);
+      ordered = order-read low high .1 (lez-read low high (p .2));
+      low-max = omega (arith, lez-read (negsuc 4094) low (both-l (lez (negsuc 4094) low) (lez low (pos 4095)) (p .0)), apart-read low);
+      code-max = leb-true (code (offset-of low) high) 4095 (p .3);
     }

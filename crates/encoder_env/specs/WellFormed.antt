@@ -5,12 +5,12 @@ use lib.IntN.{negsuc, pos, ℤ}
 use lib.ListN.{getD}
 use lib.Signed.{leZ}
 use mathlib.Core.Bool.{Bool, _&&_, cond, false, true}
-use mathlib.Core.List.{List, []}
+use mathlib.Core.List.{List}
 use Rattle.arithmetic.specs.Bits.{bit-length}
 use Rattle.arithmetic.specs.Offset.{code, offset-of}
 use Rattle.sat.specs.declared.Lit.{Lit}
 use Rattle.log_var.specs.LogEncoding.{LogEncoding as Setting}
-use Rattle.log_var.specs.Record.{encoding-of}
+use Rattle.log_var.specs.Record.{int-map-of, record-at}
 use Rattle.log_var.specs.declared.LogEncoding.{LogEncoding}
 use Rattle.encoder_env.specs.declared.EncoderEnv.{EncoderEnv}
 
@@ -29,9 +29,21 @@ unfoldable pub all-below : ℕ → (ℕ → Bool) → Bool
 all-below zero f = true
 all-below (suc n) f = all-below n f && f n
 
--- bounds of a setting's values: from −4,095 to 4,095, and the code of high at most 4,095
+-- a value: −4,095 to 4,095
+abbrev pub in-range : ℤ → Bool
+in-range z = lez (negsuc 4094) z && lez z (pos 4095)
+
+-- high − offset at most 4,095
+abbrev pub code-fits : ℤ → ℤ → Bool
+code-fits low high = leb (code (offset-of low) high) 4095
+
+-- bounds of a setting's values
 unfoldable pub bounds-hold : ℤ → ℤ → Bool
-bounds-hold low high = lez (negsuc 4094) low && lez low high && lez high (pos 4095) && leb (code (offset-of low) high) 4095
+bounds-hold low high = in-range low && in-range high && lez low high && code-fits low high
+
+-- either store has at most 16,777,216 entries
+unfoldable pub stores-within : ℕ → ℕ → Bool
+stores-within lits ends = leb lits 16777216 && leb ends 16777216
 
 abbrev pub no-lit : Lit
 no-lit = record { 0 = 0 }
@@ -57,11 +69,11 @@ is-spare e = eqz (e .low) (pos 0) && eqz (e .high) (pos 0) && eqz (e .offset) (p
 
 -- record i of the job, which has 32
 abbrev pub encoding-at : EncoderEnv → ℕ → LogEncoding
-encoding-at env i = getD (env .encodings) i (record { lits = []; len = 0; low = pos 0; high = pos 0; offset = pos 0 })
+encoding-at env i = record-at (env .encodings) i
 
 -- and the setting that it is
 abbrev pub int-map : EncoderEnv → ℕ → Setting
-int-map env i = encoding-of (encoding-at env i)
+int-map env i = int-map-of (env .encodings) i
 
 unfoldable pub record-holds : EncoderEnv → ℕ → Bool
 record-holds env i = cond (ltb i (env .count)) (encoding-holds (env .variables) (encoding-at env i)) (is-spare (encoding-at env i))
@@ -69,8 +81,7 @@ record-holds env i = cond (ltb i (env .count)) (encoding-holds (env .variables) 
 -- lits and ends are the lengths of the two stores, whose bound is part of every call's first check
 unfoldable pub well-formed : EncoderEnv → ℕ → ℕ → Bool
 well-formed env lits ends =
-    leb lits 16777216
-    && leb ends 16777216
+    stores-within lits ends
     && leb (env .switches) 64
     && leb (env .variables) 65535
     && leb (env .switches) (env .variables)

@@ -3,7 +3,7 @@ ghost use mathlib.Core.Path.{_≡_};
 ghost use mathlib.Core.Bool.{_&&_};
 ghost use Prim.Native.Nat.{_≤_};
 ghost use lib.Signed.{_≤ℤ_};
-ghost use Rattle.encoder_env.specs.WellFormed.{all-below, bounds-hold, encoding-holds, is-spare, lits-fit, record-holds, well-formed};
+ghost use Rattle.encoder_env.specs.WellFormed.{all-below, bounds-hold, encoding-holds, in-range, is-spare, lits-fit, record-holds, stores-within, well-formed};
 use arithmetic::bit_length;
 use arithmetic::code;
 use arithmetic::offset_of;
@@ -20,20 +20,46 @@ pub struct EncoderEnv {
     pub encodings: [LogEncoding; 32],
 }
 
-// Whether the values from `low` to `high` are within bounds.
+// Whether a value is within bounds.
+pub fn in_range(z: i32) -> bool
+    ensures { λ r. ⌜ r ≡ in-range z ⌝ }
+{
+    if z < -4095 {
+        return false;
+    }
+    if 4095 < z {
+        return false;
+    }
+    true
+}
+
+// Whether the values from `low` to `high` are.
 pub fn bounds_hold(low: i32, high: i32) -> bool
     ensures { λ r. ⌜ r ≡ bounds-hold low high ⌝ }
 {
-    if low < -4095 {
+    if !in_range(low) {
+        return false;
+    }
+    if !in_range(high) {
         return false;
     }
     if high < low {
         return false;
     }
-    if 4095 < high {
+    code(offset_of(low), high) <= 4095
+}
+
+// Whether the two stores are within their bound.
+pub fn stores_within(lits: usize, ends: usize) -> bool
+    ensures { λ r. ⌜ r ≡ stores-within lits ends ⌝ }
+{
+    if 16777216 < lits {
         return false;
     }
-    code(offset_of(low), high) <= 4095
+    if 16777216 < ends {
+        return false;
+    }
+    true
 }
 
 // The literals in use are below 2 × variables, unused places are 0.
@@ -129,10 +155,7 @@ fn records_hold(env: EncoderEnv) -> bool
 pub fn well_formed(env: EncoderEnv, lits: usize, ends: usize) -> bool
     ensures { λ r. ⌜ r ≡ well-formed env lits ends ⌝ }
 {
-    if 16777216 < lits {
-        return false;
-    }
-    if 16777216 < ends {
+    if !stores_within(lits, ends) {
         return false;
     }
     if 64 < env.switches {

@@ -4,7 +4,7 @@ use lib.Dec.{leb}
 use lib.IntN.{ℤ}
 use lib.ListN.{getD, length, length-set, set}
 use lib.Seq.{getD-set-same}
-use mathlib.Core.Bool.{So, _&&_, true}
+use mathlib.Core.Bool.{So, true}
 use mathlib.Core.List.{List, [], _++_}
 use mathlib.Core.Path.{_∙_, _≡_, ap, refl, subst, sym}
 use native.Mathlib.Omega.{arith}
@@ -20,7 +20,7 @@ use Rattle.clause_set.proofs.ReadBack.{read-back}
 use Rattle.norm_csp.specs.NormCsp.{NormCsp, Satisfied, begun}
 use Rattle.norm_csp.proofs.NormCsp.{Known}
 use Rattle.log_var.specs.Record.{lits-of}
-use Rattle.encoder_env.specs.WellFormed.{all-below, encoding-at, eqz, is-spare, record-holds, well-formed}
+use Rattle.encoder_env.specs.WellFormed.{all-below, encoding-at, eqz, is-spare, record-holds, stores-within, well-formed}
 use Rattle.encoder_env.proofs.Kept.{kept, well-formed-of}
 use Rattle.encoder_env.proofs.Records.{lits-known}
 use Rattle.encoder_env.proofs.Tests.{both}
@@ -122,10 +122,11 @@ module _ (n : ℕ) (lits ends : List ℕ) where
       }
 
   pub opened-invariant : open-outcome n lits ends .status ≡ 0 → Invariant (left (open-outcome n lits ends)) (begun n) []
+  unfolding stores-within
   opened-invariant h =
       let o = settled-known (status-of (open-checks n (length lits) (length ends))) (opened 0) lits ends _ h in
       let s = passed (leb n 64) _ 1 (o .0) in
-      let b = passed (leb (length lits) 16777216 && leb (length ends) 16777216) _ 0 (s .1) in
+      let b = passed (stores-within (length lits) (length ends)) _ 0 (s .1) in
       let f = passed (leb 1 (length ends)) 0 14 (b .1) in
       let w = both (leb (length lits) 16777216) (leb (length ends) 16777216) (b .0) in
       subst (λ (x : Outcome). Invariant (left x) (begun n) []) (sym (o .1))

@@ -9,6 +9,7 @@ use native.Mathlib.Omega.{arith}
 use lib.Dec.{eqb}
 use lib.ListN.{length, getD, take, set}
 use lib.Seq.{take-suc, take-suc-set}
+use Rattle.arithmetic.specs.Bits.{bit-length-within}
 use Rattle.sat.specs.declared.Lit.{Lit}
 use Rattle.sat.specs.Lit.{neg}
 use Rattle.log_adder.specs.Adder.{AdderColumn}
@@ -16,24 +17,18 @@ use Rattle.log_adder.specs.ColumnInfo.{lit, num}
 use Rattle.log_adder.specs.Gather.{Grid, with-constant}
 use Rattle.log_gather.specs.Arrays.{grid-columns, lits-of}
 
--- the bit length of a number of at most f bits
-abbrev pub bits : ℕ → ℕ → ℕ
-bits zero k = 0
-bits (suc f) zero = 0
-bits (suc f) (suc k) = suc (bits f (suc k / 2))
-
 grid-shift : (w i : ℕ) (c : List ℕ) (g : Grid) (k : ℕ) → grid-columns w (suc i) (c ∷ g) k ≡ grid-columns w i g k
 grid-shift zero i c g k = refl
 grid-shift (suc w) i c g k =
     let e : suc i + 1 ≡ suc (i + 1) = omega arith in
     ap (λ (r : List AdderColumn). record { own = getD g i []; constant = k % 2 } ∷ r) (ap (λ (j : ℕ). grid-columns w j (c ∷ g) (k / 2)) e ∙ grid-shift w (i + 1) c g (k / 2))
 
-none-past : (f k i : ℕ) → with-constant f [] k ≡ grid-columns (bits f k) i [] k
+none-past : (f k i : ℕ) → with-constant f [] k ≡ grid-columns (bit-length-within f k) i [] k
 none-past zero k i = refl
 none-past (suc f) zero i = refl
 none-past (suc f) (suc k) i = ap (λ (r : List AdderColumn). record { own = []; constant = suc k % 2 } ∷ r) (none-past f (suc k / 2) (i + 1))
 
-bits-more : (f k : ℕ) → k < 2 ^ f → bits (suc f) k ≡ bits f k
+bits-more : (f k : ℕ) → k < 2 ^ f → bit-length-within (suc f) k ≡ bit-length-within f k
 bits-more zero zero h = refl
 bits-more zero (suc k) h = let z : suc k < 1 = rw pow-zero at h in absurd (omega arith)
 bits-more (suc f) zero h = refl
@@ -41,7 +36,7 @@ bits-more (suc f) (suc k) h =
     let z : suc k < 2 * 2 ^ f = rw (pow-succ' 2 f) at h in
     ap suc (bits-more f (suc k / 2) (omega arith))
 
-bits-half : (f k : ℕ) → 0 < k → k < 2 ^ f → bits f k ≡ suc (bits f (k / 2))
+bits-half : (f k : ℕ) → 0 < k → k < 2 ^ f → bit-length-within f k ≡ suc (bit-length-within f (k / 2))
 bits-half zero k p h = let z : k < 1 = rw pow-zero at h in absurd (omega arith)
 bits-half (suc f) zero p h = absurd (not-suc-le-zero p)
 bits-half (suc f) (suc k) p h =
@@ -49,20 +44,20 @@ bits-half (suc f) (suc k) p h =
     ap suc (sym (bits-more f (suc k / 2) (omega arith)))
 
 -- the definition's columns are those of the width that the code has
-pub constant-grid : (f : ℕ) (g : Grid) (k : ℕ) → k < 2 ^ f → with-constant f g k ≡ grid-columns (max (length g) (bits f k)) 0 g k
+pub constant-grid : (f : ℕ) (g : Grid) (k : ℕ) → k < 2 ^ f → with-constant f g k ≡ grid-columns (max (length g) (bit-length-within f k)) 0 g k
 constant-grid f [] k h =
-    let e : bits f k ≡ max 0 (bits f k) = omega arith in
+    let e : bit-length-within f k ≡ max 0 (bit-length-within f k) = omega arith in
     none-past f k 0 ∙ ap (λ (w : ℕ). grid-columns w 0 [] k) e
 constant-grid f (c ∷ g) k h =
     let r = constant-grid f g (k / 2) (omega arith) in
-    let w : ℕ = max (length g) (bits f (k / 2)) in
+    let w : ℕ = max (length g) (bit-length-within f (k / 2)) in
     ap (λ (x : List AdderColumn). record { own = c; constant = k % 2 } ∷ x) (r ∙ sym (grid-shift w 0 c g (k / 2)))
     ∙ ap (λ (n : ℕ). grid-columns n 0 (c ∷ g) k) (width k h)
   where
-    width : (k : ℕ) → k < 2 ^ f → suc (max (length g) (bits f (k / 2))) ≡ max (length (c ∷ g)) (bits f k)
-    width zero h = let e : bits f 0 ≡ 0 = zero-bits f in let e₂ : bits f (0 / 2) ≡ 0 = zero-bits f in omega arith
+    width : (k : ℕ) → k < 2 ^ f → suc (max (length g) (bit-length-within f (k / 2))) ≡ max (length (c ∷ g)) (bit-length-within f k)
+    width zero h = let e : bit-length-within f 0 ≡ 0 = zero-bits f in let e₂ : bit-length-within f (0 / 2) ≡ 0 = zero-bits f in omega arith
       where
-        zero-bits : (f : ℕ) → bits f 0 ≡ 0
+        zero-bits : (f : ℕ) → bit-length-within f 0 ≡ 0
         zero-bits zero = refl
         zero-bits (suc f) = refl
     width (suc k) h = let e = bits-half f (suc k) (omega arith) h in omega arith

@@ -2,3 +2,4 @@ pub mod Pushing
 pub mod Widths
 pub mod Constants
 pub mod EqColumns
+pub mod Steps

@@ -5,6 +5,7 @@ ghost use mathlib.Core.List.{[], _∷_, map};
 ghost use lib.Dec.{eqb};
 ghost use lib.ListN.{replicate};
 ghost use Prim.Native.Nat.{max, _+_, _%_, _^_, _≤_, _<_};
+ghost use Rattle.arithmetic.specs.Bits.{shl};
 ghost use Rattle.sat.specs.Lit.{neg};
 ghost use Rattle.log_adder.specs.ColumnInfo.{AllLow};
 ghost use Rattle.log_adder.specs.Gather.{push-scaled, push-value};
@@ -31,11 +32,11 @@ fn push_lit(cols: [[Lit; 12]; 32], counts: &mut [u32; 32], w: usize, l: Lit) -> 
 fn push_value(
     cols: [[Lit; 12]; 32],
     counts: &mut [u32; 32],
-    lits: [Lit; 12],
+    lits: [Lit; 32],
     n: usize,
     o: usize,
 ) -> [[Lit; 12]; 32]
-    requires { ⌜ (n ≤ 12) × (o ≤ 20) × AllLow lits ⌝ }
+    requires { ⌜ (o + n ≤ 32) × AllLow lits ⌝ }
     requires { ⌜ Arrays cols (now counts) × Few 2147482000 (now counts) ⌝ }
     ensures { λ r. ⌜ Pushed n cols (now (counts .entry)) (push-value o (lits-of lits n)) r (now (counts .exit)) ⌝ }
 {
@@ -54,14 +55,14 @@ fn push_value(
 fn push_bit(
     cols: [[Lit; 12]; 32],
     counts: &mut [u32; 32],
-    lits: [Lit; 12],
+    lits: [Lit; 32],
     n: usize,
     o: usize,
     k: u32,
 ) -> [[Lit; 12]; 32]
-    requires { ⌜ (n ≤ 12) × (o ≤ 20) × AllLow lits ⌝ }
+    requires { ⌜ (shl (o + n) k < 2 ^ 32) × AllLow lits ⌝ }
     requires { ⌜ Arrays cols (now counts) × Few 2147482000 (now counts) ⌝ }
-    ensures { λ r. ⌜ Pushed 12 cols (now (counts .entry)) (λ g. cond (eqb (k % 2) 1) (push-value o (lits-of lits n) g) g) r (now (counts .exit)) ⌝ }
+    ensures { λ r. ⌜ Pushed 32 cols (now (counts .entry)) (λ g. cond (eqb (k % 2) 1) (push-value o (lits-of lits n) g) g) r (now (counts .exit)) ⌝ }
 {
     if k % 2 == 1 {
         return push_value(cols, counts, lits, n, o);
@@ -69,22 +70,24 @@ fn push_bit(
     cols
 }
 
-// The first n literals by weight, once for each bit of the coefficient.
+// The first n literals by weight, once for each of the coefficient's bits: eight in a sum, twelve in a product with offsets. What they
+// can come to has at most 32 bits.
 pub fn push_scaled(
     cols: [[Lit; 12]; 32],
     counts: &mut [u32; 32],
-    lits: [Lit; 12],
+    lits: [Lit; 32],
     n: usize,
     coef: u32,
+    steps: usize,
 ) -> [[Lit; 12]; 32]
-    requires { ⌜ (n ≤ 12) × AllLow lits ⌝ }
+    requires { ⌜ (steps ≤ 12) × (shl n coef < 2 ^ 32) × AllLow lits ⌝ }
     requires { ⌜ Arrays cols (now counts) × Few 2147480000 (now counts) ⌝ }
-    ensures { λ r. ⌜ Pushed 144 cols (now (counts .entry)) (push-scaled 12 coef 0 (lits-of lits n)) r (now (counts .exit)) ⌝ }
+    ensures { λ r. ⌜ Pushed 384 cols (now (counts .entry)) (push-scaled steps coef 0 (lits-of lits n)) r (now (counts .exit)) ⌝ }
 {
     let mut out = cols;
     let mut k = coef;
     let mut o: usize = 0;
-    while o < 12 {
+    while o < steps {
         let next = push_bit(out, counts, lits, n, o, k);
         out = next;
         k = k / 2;
@@ -102,7 +105,7 @@ pub fn no_columns() -> [[Lit; 12]; 32]
 }
 
 // The greater of two numbers.
-fn larger(a: usize, b: usize) -> usize
+pub fn larger(a: usize, b: usize) -> usize
     ensures { λ r. ⌜ r ≡ max a b ⌝ }
 {
     if a < b { b } else { a }
@@ -110,7 +113,7 @@ fn larger(a: usize, b: usize) -> usize
 
 // The width after the bit of weight o.
 fn width_bit(w: usize, n: usize, o: usize, k: u32) -> usize
-    requires { ⌜ (w ≤ 32) × (n ≤ 12) × (o ≤ 12) ⌝ }
+    requires { ⌜ (w ≤ 32) × (shl (o + n) k < 2 ^ 32) ⌝ }
     ensures { λ r. ⌜ (r ≡ cond (eqb (k % 2) 1) (max w (o + n)) w) × (r ≤ 32) ⌝ }
 {
     if k % 2 == 1 {
@@ -120,14 +123,14 @@ fn width_bit(w: usize, n: usize, o: usize, k: u32) -> usize
 }
 
 // How many columns there are after `push_scaled`.
-pub fn width_after(width: usize, n: usize, coef: u32) -> usize
-    requires { ⌜ (width ≤ 32) × (n ≤ 12) ⌝ }
-    ensures { λ r. ⌜ (r ≡ widths 12 coef 0 n width) × (r ≤ 32) ⌝ }
+pub fn width_after(width: usize, n: usize, coef: u32, steps: usize) -> usize
+    requires { ⌜ (steps ≤ 12) × (width ≤ 32) × (shl n coef < 2 ^ 32) ⌝ }
+    ensures { λ r. ⌜ (r ≡ widths steps coef 0 n width) × (r ≤ 32) ⌝ }
 {
     let mut w = width;
     let mut k = coef;
     let mut o: usize = 0;
-    while o < 12 {
+    while o < steps {
         w = width_bit(w, n, o, k);
         k = k / 2;
         o += 1;
@@ -136,11 +139,11 @@ pub fn width_after(width: usize, n: usize, coef: u32) -> usize
 }
 
 // The first n literals negated.
-pub fn negate_all(lits: [Lit; 12], n: usize) -> [Lit; 12]
-    requires { ⌜ (n ≤ 12) × AllSmall lits ⌝ }
+pub fn negate_all(lits: [Lit; 32], n: usize) -> [Lit; 32]
+    requires { ⌜ (n ≤ 32) × AllSmall lits ⌝ }
     ensures { λ r. ⌜ (lits-of r n ≡ map neg (lits-of lits n)) × AllLow r ⌝ }
 {
-    let mut out = [Lit(0); 12];
+    let mut out = [Lit(0); 32];
     let mut i: usize = 0;
     while i < n {
         let l = lits[i];

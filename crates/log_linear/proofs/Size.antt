@@ -24,7 +24,7 @@ use Rattle.log_linear.specs.Size.{compare-count, compare-vars, constant-
 
 -- Gathering -----------------------------------------------------------------------------------------------------------
 
-gather-sign-counts : (s : Bool) (ps : List Weighted) (grid : Grid) → own-counts (gather-sign s ps grid) ≡ sign-counts s (map shape-of ps) (own-counts grid)
+pub gather-sign-counts : (s : Bool) (ps : List Weighted) (grid : Grid) → own-counts (gather-sign s ps grid) ≡ sign-counts s (map shape-of ps) (own-counts grid)
 gather-sign-counts s [] grid = refl
 gather-sign-counts s (p ∷ ps) grid =
     gather-sign-counts s ps (cond (Bool·beq s (p .negative)) (push-scaled 12 (p .coef) 0 (p .lits) grid) grid)
@@ -35,13 +35,13 @@ gather-sign-counts s (p ∷ ps) grid =
     go true = push-scaled-counts-are 12 (p .coef) 0 (p .lits) grid
     go false = refl
 
-with-constant-shapes : (f : ℕ) (grid : Grid) (k : ℕ) → map column-shape (with-constant f grid k) ≡ constant-shapes f (own-counts grid) k
+pub with-constant-shapes : (f : ℕ) (grid : Grid) (k : ℕ) → map column-shape (with-constant f grid k) ≡ constant-shapes f (own-counts grid) k
 with-constant-shapes f (c ∷ cols) k = ap (λ t. record { own = length c; constant = k % 2 } ∷ t) (with-constant-shapes f cols (k / 2))
 with-constant-shapes zero [] k = refl
 with-constant-shapes (suc f) [] zero = refl
 with-constant-shapes (suc f) [] (suc k) = ap (λ t. record { own = 0; constant = suc k % 2 } ∷ t) (with-constant-shapes f [] (suc k / 2))
 
-length-positive : (p : Weighted) → length (positive-lits p) ≡ length (p .lits)
+pub length-positive : (p : Weighted) → length (positive-lits p) ≡ length (p .lits)
 length-positive p = go (p .negative)
   where
     go : (t : Bool) → length (cond t (map neg (p .lits)) (p .lits)) ≡ length (p .lits)
@@ -52,14 +52,14 @@ push-some-counts-are : (k : ℕ) (ls : List ℕ) (grid : Grid) → own-counts (p
 push-some-counts-are k [] grid = refl
 push-some-counts-are k (l ∷ ls) grid = push-scaled-counts-are 12 k 0 (l ∷ ls) grid
 
-gather-counts-are : (ps : List Weighted) (grid : Grid) → own-counts (gather ps grid) ≡ gather-counts (map shape-of ps) (own-counts grid)
+pub gather-counts-are : (ps : List Weighted) (grid : Grid) → own-counts (gather ps grid) ≡ gather-counts (map shape-of ps) (own-counts grid)
 gather-counts-are [] grid = refl
 gather-counts-are (p ∷ ps) grid =
     gather-counts-are ps (push-scaled-some (p .coef) (positive-lits p) grid)
     ∙ ap (gather-counts (map shape-of ps))
     (push-some-counts-are (p .coef) (positive-lits p) grid ∙ ap (λ n. push-some-counts (p .coef) n (own-counts grid)) (length-positive p))
 
-negated-bits-are : (ps : List Weighted) → negated-constant ps ≡ negated-bits (map shape-of ps)
+pub negated-bits-are : (ps : List Weighted) → negated-constant ps ≡ negated-bits (map shape-of ps)
 negated-bits-are [] = refl
 negated-bits-are (p ∷ ps) = omega (arith, negated-bits-are ps)
 
@@ -181,7 +181,7 @@ pub shape-of-weighted : (k : ℤ) (ls : List ℕ) → shape-of (weighted k ls) �
 shape-of-weighted (pos k) ls = refl
 shape-of-weighted (negsuc k) ls = refl
 
-term-shapes-are : (int-map : ℕ → LogEncoding) (terms : List LinearTerm)
+pub term-shapes-are : (int-map : ℕ → LogEncoding) (terms : List LinearTerm)
     → map shape-of (weighted-terms int-map terms) ≡ term-shapes (λ i. setting-shape (int-map i)) terms
 term-shapes-are int-map [] = refl
 term-shapes-are int-map (t ∷ ts) = ap₂ (λ s ss. s ∷ ss) (shape-of-weighted (t .coef) (int-map (t .var) .lits)) (term-shapes-are int-map ts)

@@ -3,3 +3,5 @@ pub mod Linear
 pub mod PlainLinear
 pub mod EncodeLinearLog
 pub mod Size
+pub mod SubLit
+pub mod Added

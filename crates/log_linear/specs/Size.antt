@@ -125,3 +125,9 @@ term-shapes settings (t ∷ ts) = weighted-shape (t .coef) (settings (t .var) .b
 abbrev pub linear-log-size : (ℕ → SettingShape) → CmpOp → ℤ → List LinearTerm → Size
 linear-log-size settings op constant terms =
     linear-size op (term-shapes settings terms) (linear-sum (λ i. settings i .offset) constant terms)
+
+-- document 01's columns reached, of a sum
+abbrev pub linear-log-reached : (ℕ → SettingShape) → CmpOp → ℤ → List LinearTerm → List Reached
+linear-log-reached settings op constant terms =
+    let k = linear-sum (λ i. settings i .offset) constant terms in
+    linear-reached op (term-shapes settings terms) (up k) (down k)

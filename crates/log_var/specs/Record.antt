@@ -1,7 +1,7 @@
 -- The setting record as the code holds it, and the value that bytes read it as.
 use Prim.Native.Nat.{_*_, _+_, _-_, ℕ}
-use lib.IntN.{ℤ}
-use lib.ListN.{length, replicate, take}
+use lib.IntN.{pos, ℤ}
+use lib.ListN.{getD, length, replicate, take}
 use mathlib.Core.Bool.{cond}
 use mathlib.Core.List.{List, [], _++_, _∷_, map}
 use Rattle.arithmetic.specs.Offset.{value}
@@ -29,6 +29,13 @@ lits-of e = map num (take (e .len) (e .lits))
 -- the setting that a record is
 abbrev pub encoding-of : Encoding → LogEncoding
 encoding-of e = record { lits = lits-of e; low = e .low; high = e .high; offset = e .offset }
+
+-- record i of an array of records, and the setting that it is
+abbrev pub record-at : List Encoding → ℕ → Encoding
+record-at es i = getD es i (record { lits = []; len = 0; low = pos 0; high = pos 0; offset = pos 0 })
+
+abbrev pub int-map-of : List Encoding → ℕ → LogEncoding
+int-map-of es i = encoding-of (record-at es i)
 
 -- the sum of 2 ^ i over those literals that hold under an assignment of bytes
 abbrev pub code-of-bytes : List ℕ → List ℕ → ℕ

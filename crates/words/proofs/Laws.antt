@@ -14,10 +14,10 @@ use Rattle.text.specs.Decimal.{digits-value}
 use Rattle.text.proofs.Numerals.{digits-value-append}
 use Rattle.words.specs.Numbers.{part, is-digit, all-digits, some-digits, is-integer, integer-value, in-range, Digits}
 
-part-none : (s : List ℕ) (a : ℕ) → part s a a ≡ []
+pub part-none : (s : List ℕ) (a : ℕ) → part s a a ≡ []
 part-none s a = let e : a - a ≡ 0 = omega arith in rw e
 
-part-last : (s : List ℕ) (a i : ℕ) → a ≤ i → i < length s → part s a (i + 1) ≡ part s a i ++ (getD s i 0 ∷ [])
+pub part-last : (s : List ℕ) (a i : ℕ) → a ≤ i → i < length s → part s a (i + 1) ≡ part s a i ++ (getD s i 0 ∷ [])
 part-last s a i h k =
     let e : i + 1 - a ≡ suc (i - a) = omega arith in
     let f : a + (i - a) ≡ i = omega arith in

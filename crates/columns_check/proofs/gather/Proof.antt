@@ -2,6 +2,7 @@
 use Prim.Native.Nat.{_-_, _*_, _≤_}
 use native.Mathlib.Omega.{arith}
 use lib.ListN.{length}
+use Rattle.log_gather.proofs.Steps.{shl-more}
 use borrow.Author.Needs.{needs}
 use Rattle.columns_check.specs.Input.{Gathered}
 use Rattle.columns_check.proofs.Laws.{few-more, gathered-more, gathered-none}
@@ -9,7 +10,7 @@ use Rattle.columns_check.proofs.gather.Statement.{statement}
 use Rattle.columns_check.proofs.gather.Tie as tie
 
 abbrev Inv-loop : tie.InvT-loop
-Inv-loop nums from counts₀ cols₀ at₀ counts cols at = (at ≤ 512) × Gathered (144 * at) cols counts
+Inv-loop nums from counts₀ cols₀ at₀ counts cols at = (at ≤ 512) × Gathered (384 * at) cols counts
 
 abbrev μ-loop : tie.MeasureT-loop
 μ-loop nums from counts₀ cols₀ at₀ counts cols at = length nums - at
@@ -29,8 +30,10 @@ read-row-requires c κs = search needs
 push-scaled-requires : tie.Need-push-scaled-requires Inv-loop μ-loop
 push-scaled-requires c κs =
     let l = c .before .before .before .before .loop in
+    let q = c .before .before .read-row .result in
     let r = c .before .before .read-row .ensures in
-    ((r .len, r .low), (l .inv .1 .arrays, few-more (l .counts) (omega (arith, l .inv .0)) (l .inv .1 .few)))
+    let b = shl-more (q .len) 12 (q .coef) (r .len) in
+    ((omega arith, omega (arith, r .coef), r .low), (l .inv .1 .arrays, few-more (l .counts) (omega (arith, l .inv .0)) (l .inv .1 .few)))
 
 loop-less : tie.Need-loop-less Inv-loop μ-loop
 loop-less c = search needs

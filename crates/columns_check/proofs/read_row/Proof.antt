@@ -34,7 +34,7 @@ add-t16 c = search needs
 returns : tie.Need-returns
 returns c =
     let p = c .before .before .before .before .pre in
-    record { low = every-replicate (lit 0) (λ (x : Lit). x .0 < 2 ^ 31) 12 (lit< tt); len = omega arith; onward = omega arith; within = omega (arith, p .0, p .1) }
+    record { low = every-replicate (lit 0) (λ (x : Lit). x .0 < 2 ^ 31) 32 (lit< tt); len = omega arith; coef = omega arith; onward = omega arith; within = omega (arith, p .0, p .1) }
 
 add-row-lits : tie.Need-add-row-lits
 add-row-lits c = search needs
@@ -51,7 +51,7 @@ add-t17 c = search needs
 returns-2 : tie.Need-returns-2
 returns-2 c =
     let p = c .before .before .before .before .before .before .before .pre in
-    record { low = c .row-lits .ensures; len = omega (arith, ltb-false); onward = omega arith; within = omega (arith, ltb-false, p .0, p .1) }
+    record { low = c .row-lits .ensures; len = omega (arith, ltb-false); coef = omega (arith, ltb-false); onward = omega arith; within = omega (arith, ltb-false, p .0, p .1) }
 
 pub read-row-spec : {M : Type 1} → statement M
 read-row-spec =

@@ -12,13 +12,13 @@ use Rattle.columns_check.proofs.row_lits.Statement.{statement}
 use Rattle.columns_check.proofs.row_lits.Tie as tie
 
 abbrev Inv-loop : tie.InvT-loop
-Inv-loop nums from n out₀ i₀ out i = (i ≤ n) × (length out ≡ 12) × AllLow out
+Inv-loop nums from n out₀ i₀ out i = (i ≤ n) × (length out ≡ 32) × AllLow out
 
 abbrev μ-loop : tie.MeasureT-loop
 μ-loop nums from n out₀ i₀ out i = n - i
 
 loop-holds : tie.Need-loop-holds Inv-loop μ-loop
-loop-holds c = (omega arith, refl, every-replicate (lit 0) (λ (x : Lit). x .0 < 2 ^ 31) 12 (lit< tt))
+loop-holds c = (omega arith, refl, every-replicate (lit 0) (λ (x : Lit). x .0 < 2 ^ 31) 32 (lit< tt))
 
 add-number : tie.Need-add-number Inv-loop μ-loop
 add-number c = search needs

@@ -10,9 +10,8 @@ use lib.IntN.{pos, ℤ}
 use lib.ListN.{getD, length}
 use mir.Syntax.{w32}
 use mir.ValLaws.{toZ-ofZ}
-use Rattle.encoder_env.specs.WellFormed.{all-below}
+use Rattle.encoder_env.specs.WellFormed.{all-below, in-range}
 use Rattle.encoder_env.proofs.Tests.{all-fail, all-more}
-use Rattle.encoder.specs.Calls.{in-range}
 use Rattle.encoder.proofs.all_in_range.Statement.{statement}
 use Rattle.encoder.proofs.all_in_range.Tie as tie
 

@@ -9,10 +9,9 @@ use lib.Dec.{ltb}
 use lib.Signed.{ltZ}
 use mir.Syntax.{w32}
 use mir.ValLaws.{toZ-ofZ}
-use Rattle.encoder_env.specs.WellFormed.{bounds-hold, well-formed}
+use Rattle.encoder_env.specs.WellFormed.{bounds-hold, code-fits, in-range, well-formed}
 use Rattle.encoder_env.proofs.Kept.{kept}
 use Rattle.encoder_env.proofs.Tests.{below-no, below-yes, lt-lez}
-use Rattle.encoder.specs.Calls.{code-fits, in-range}
 use Rattle.encoder.proofs.Settings.{bounds-code}
 use Rattle.encoder.proofs.binary_status.Statement.{statement}
 use Rattle.encoder.proofs.binary_status.Tie as tie

@@ -10,7 +10,7 @@ use Rattle.log_var.specs.Calls.{VarAdded}
 use Rattle.encoder.specs.Calls.{setting-checks}
 use Rattle.encoder.specs.Outcome.{status-of}
 use Rattle.encoder.specs.Sizes.{SizeOf, counts-of}
-use Rattle.encoder.proofs.Settings.{Admitted, counts-fit, binary-admitted, setting-added, setting-refused, setting-without-space}
+use Rattle.encoder.proofs.Settings.{Admitted, setting-counts-fit, binary-admitted, setting-added, setting-refused, setting-without-space}
 use Rattle.encoder.proofs.encode_binary.Statement.{statement}
 use Rattle.encoder.proofs.encode_binary.Tie as tie
 
@@ -62,7 +62,7 @@ returns-2 : tie.Need-returns-2
 returns-2 c =
     let a = c .before .before .before .before .before .before .before .before .before .before .before .before .before .before .before .args in
     let m = c .before .before .before .before .before .before .before .binary-size in
-    setting-without-space (a .env) (a .lits .now) (a .ends .now) (binary (a .cond .0) (a .f) (a .t)) _ (checked (c .before .before .before .before .before .before .before .before .before .before .before .before)) (c .before .before .before .before .before .before .before .before .before .before .before .if1 .left) _ (size-is (c .before .before .before .before .before .before .before)) _ _ (m .ensures .0) (m .ensures .1) _
+    setting-without-space (a .env) (a .lits .now) (a .ends .now) (binary (a .cond .0) (a .f) (a .t)) _ (checked (c .before .before .before .before .before .before .before .before .before .before .before .before)) (c .before .before .before .before .before .before .before .before .before .before .before .if1 .left) _ _ (size-is (c .before .before .before .before .before .before .before)) _ _ (m .ensures .0) (m .ensures .1) _
     (c .before .before .space-status .ensures) _ (c .before .if2 .taken) (c .refusal2 .ensures)
 
 encode-binary-requires : tie.Need-encode-binary-requires
@@ -83,7 +83,7 @@ accepted-requires c κs =
     let a = c .before .before .before .before .before .before .before .before .before .before .before .before .before .before .before .before .before .before .before .before .before .args in
     let m = c .before .before .before .before .before .before .before .before .before .before .before .before .before .binary-size in
     let d = admitted (c .before .before .before .before .before .before .before .before .before .before .before .before .before .before .before .before .before) in
-    let f = counts-fit (a .env) (a .lits .now) (a .ends .now) (binary (a .cond .0) (a .f) (a .t)) _ (checked (c .before .before .before .before .before .before .before .before .before .before .before .before .before .before .before .before .before .before)) (c .before .before .before .before .before .before .before .before .before .before .before .before .before .before .before .before .before .if1 .left) _ (size-is (c .before .before .before .before .before .before .before .before .before .before .before .before .before)) _ _ (m .ensures .0) (m .ensures .1) _
+    let f = setting-counts-fit (a .env) (a .lits .now) (a .ends .now) (binary (a .cond .0) (a .f) (a .t)) _ (checked (c .before .before .before .before .before .before .before .before .before .before .before .before .before .before .before .before .before .before)) (c .before .before .before .before .before .before .before .before .before .before .before .before .before .before .before .before .before .if1 .left) _ _ (size-is (c .before .before .before .before .before .before .before .before .before .before .before .before .before)) _ _ (m .ensures .0) (m .ensures .1) _
     (c .before .before .before .before .before .before .before .before .space-status .ensures) (c .before .before .before .before .before .before .before .if2 .left) _ _ _ (added (c .before .before .before .before)) (d .holds) in
     (d .free, f .0, f .1)
 
@@ -97,7 +97,7 @@ returns-3 : tie.Need-returns-3
 returns-3 c =
     let a = c .before .before .before .before .before .before .before .before .before .before .before .before .before .before .before .before .before .before .before .before .before .before .args in
     let m = c .before .before .before .before .before .before .before .before .before .before .before .before .before .before .binary-size in
-    setting-added (a .env) (a .lits .now) (a .ends .now) (binary (a .cond .0) (a .f) (a .t)) _ (checked (c .before .before .before .before .before .before .before .before .before .before .before .before .before .before .before .before .before .before .before)) (c .before .before .before .before .before .before .before .before .before .before .before .before .before .before .before .before .before .before .if1 .left) _ (size-is (c .before .before .before .before .before .before .before .before .before .before .before .before .before .before)) _ _ (m .ensures .0) (m .ensures .1) _
+    setting-added (a .env) (a .lits .now) (a .ends .now) (binary (a .cond .0) (a .f) (a .t)) _ (checked (c .before .before .before .before .before .before .before .before .before .before .before .before .before .before .before .before .before .before .before)) (c .before .before .before .before .before .before .before .before .before .before .before .before .before .before .before .before .before .before .if1 .left) _ _ (size-is (c .before .before .before .before .before .before .before .before .before .before .before .before .before .before)) _ _ (m .ensures .0) (m .ensures .1) _
     (c .before .before .before .before .before .before .before .before .before .space-status .ensures) (c .before .before .before .before .before .before .before .before .if2 .left) _ _ _ (added (c .before .before .before .before .before)) _ (c .accepted .ensures)
 
 pub encode-binary-spec : {M : Type 1} → statement M

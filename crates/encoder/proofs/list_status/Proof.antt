@@ -9,8 +9,8 @@ use lib.IntN.{pos, ℤ}
 use lib.ListN.{getD, length}
 use mir.Syntax.{w32}
 use mir.ValLaws.{toZ-ofZ}
-use Rattle.encoder_env.specs.WellFormed.{bounds-hold, well-formed}
-use Rattle.encoder.specs.Calls.{all-in-range, code-fits, rising}
+use Rattle.encoder_env.specs.WellFormed.{bounds-hold, code-fits, well-formed}
+use Rattle.encoder.specs.Calls.{all-in-range, rising}
 use Rattle.encoder.proofs.Settings.{list-bounds}
 use Rattle.encoder.proofs.list_status.Statement.{statement}
 use Rattle.encoder.proofs.list_status.Tie as tie

@@ -16,17 +16,17 @@ use Rattle.log_gather.specs.Arrays.{lits-of}
 use Rattle.log_gather.proofs.Constants.{neg-low, negate-more}
 
 abbrev Inv-loop : tie.InvT-loop
-Inv-loop n lits out₀ i₀ out i = (i ≤ n) × (length out ≡ 12) × (lits-of out i ≡ map neg (lits-of lits i)) × AllLow out
+Inv-loop n lits out₀ i₀ out i = (i ≤ n) × (length out ≡ 32) × (lits-of out i ≡ map neg (lits-of lits i)) × AllLow out
 
 abbrev μ-loop : tie.MeasureT-loop
 μ-loop n lits out₀ i₀ out i = n - i
 
--- the array of literals has 12 places
-lits-long : (c : tie.Start Inv-loop μ-loop) → length (c .args .t1) ≡ 12
+-- the array of literals has 32 places
+lits-long : (c : tie.Start Inv-loop μ-loop) → length (c .args .t1) ≡ 32
 lits-long c = c .good .0 .1 .0 .1
 
 loop-holds : tie.Need-loop-holds Inv-loop μ-loop
-loop-holds c = (omega arith, refl, refl, every-replicate (lit 0) (λ (x : Lit). x .0 < 2 ^ 31) 12 (lit< tt))
+loop-holds c = (omega arith, refl, refl, every-replicate (lit 0) (λ (x : Lit). x .0 < 2 ^ 31) 32 (lit< tt))
 
 mul-l : tie.Need-mul-l Inv-loop μ-loop
 mul-l c = search needs

@@ -18,8 +18,8 @@ Inv-loop counts₀ n o lits out₀ j₀ counts out j = (j ≤ n) × Pushed j out
 abbrev μ-loop : tie.MeasureT-loop
 μ-loop counts₀ n o lits out₀ j₀ counts out j = n - j
 
--- the array of literals has 12 places
-lits-long : (c : tie.Start Inv-loop μ-loop) → length (c .args .t3) ≡ 12
+-- the array of literals has 32 places
+lits-long : (c : tie.Start Inv-loop μ-loop) → length (c .args .t3) ≡ 32
 lits-long c = c .good .1 .1 .0 .1 .0 .1
 
 loop-holds : tie.Need-loop-holds Inv-loop μ-loop
@@ -38,7 +38,7 @@ push-lit-requires : tie.Need-push-lit-requires Inv-loop μ-loop
 push-lit-requires c κs =
     let s = c .before .before .before .before in
     let l = c .before .before .before .loop in
-    (omega (arith, s .pre .0), s .pre .0 .2 (l .j), l .inv .1 .arrays, λ i. let k = l .inv .1 .few 2147482000 (s .pre .1 .1) i in omega (arith, s .pre .0))
+    (omega (arith, s .pre .0 .0), s .pre .0 .1 (l .j), l .inv .1 .arrays, λ i. let k = l .inv .1 .few 2147482000 (s .pre .1 .1) i in omega (arith, s .pre .0 .0))
 
 add-j : tie.Need-add-j Inv-loop μ-loop
 add-j c = search needs
@@ -53,7 +53,7 @@ loop-again c =
     let w = c .push-lit in (
       omega arith,
       pushed-then (push-value (s .args .o) (lits-of (s .args .t3) (l .j + 1))) (push-value (s .args .o) (lits-of (s .args .t3) (l .j))) (push-value (s .args .o + l .j) (getD (s .args .t3) (l .j) (lit 0) .0 ∷ []))
-          (push-more (s .args .o) (s .args .t3) (l .j) (omega (arith, lits-long s, s .pre .0))) (l .inv .1) (w .ensures),
+          (push-more (s .args .o) (s .args .t3) (l .j) (omega (arith, lits-long s, s .pre .0 .0))) (l .inv .1) (w .ensures),
     )
 
 returns : tie.Need-returns Inv-loop μ-loop

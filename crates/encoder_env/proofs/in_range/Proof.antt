@@ -1,8 +1,8 @@
--- `encoder::in_range` meets its contract.
+-- `encoder_env::in_range` meets its contract.
 use borrow.Author.Needs.{needs}
 use Rattle.encoder_env.proofs.Tests.{signed-tests}
-use Rattle.encoder.proofs.in_range.Statement.{statement}
-use Rattle.encoder.proofs.in_range.Tie as tie
+use Rattle.encoder_env.proofs.in_range.Statement.{statement}
+use Rattle.encoder_env.proofs.in_range.Tie as tie
 
 returns : tie.Need-returns
 returns c = search (signed-tests, needs)

@@ -1,0 +1,5 @@
+pub mod Steps
+pub mod Tokens
+pub mod Reading
+pub mod Words
+pub mod Lists

@@ -1,0 +1,74 @@
+-- The two parts of a whole number, and an operation by its number.
+use mathlib.Core.Path.{_≡_, refl, sym, _∙_}
+use mathlib.Core.Bool.{Bool, false, not, true, true≢false}
+use mathlib.Core.List.{List, _++_}
+use Prim.Native.Nat.{ℕ, zero, suc, _<_}
+use native.Mathlib.Omega.{arith}
+use borrow.Author.Tests.{ltb-true}
+use lib.IntN.{negsuc, pos, ℤ}
+use lib.Signed.{_≤ℤ_, ltZ}
+use Rattle.arithmetic.specs.Integers.{down, up}
+use Rattle.arithmetic.specs.Offset.{code}
+use Rattle.arithmetic.proofs.Integers.{order-read}
+use Rattle.arithmetic.proofs.Offset.{code-read}
+use Rattle.norm_csp.specs.Rules.{ge, op-of}
+use Rattle.log_adder.specs.Size.{too-tall}
+use Rattle.log_linear.specs.EncodeLinearLog.{encode-weighted, eq-rule}
+use Rattle.log_linear.specs.Linear.{Weighted, linear-eq, linear-ge, linear-ne}
+use Rattle.log_linear.specs.Size.{WeightedShape, linear-reached, sign-reached}
+use Rattle.log_sum.proofs.Compared.{tall-append}
+
+pub negative-read : (z : ℤ) → ltZ z (pos 0) ≡ true → (up z ≡ 0) × (z ≤ℤ pos 0)
+negative-read (pos n) e = let h : n < 0 = ltb-true n 0 e in absurd (omega arith)
+negative-read (negsuc n) e = (refl, order-read (negsuc n) (pos 0) .1 (omega arith))
+
+pub positive-read : (z : ℤ) → ltZ z (pos 0) ≡ false → (down z ≡ 0) × (pos 0 ≤ℤ z)
+positive-read (pos n) e = (refl, order-read (pos 0) (pos n) .1 (omega arith))
+positive-read (negsuc n) e = absurd (true≢false e)
+
+pub up-code : (z : ℤ) → ltZ z (pos 0) ≡ false → code (pos 0) z ≡ up z
+up-code z e = let r = positive-read z e in omega (arith, code-read (pos 0) z (r .1))
+
+pub down-code : (z : ℤ) → ltZ z (pos 0) ≡ true → code z (pos 0) ≡ down z
+down-code z e = let r = negative-read z e in omega (arith, code-read z (pos 0) (r .1))
+
+-- Operations ----------------------------------------------------------------------------------------------------------
+
+pub op-ge : (n : ℕ) → (n ≡ 0 → ⊥) → (n ≡ 1 → ⊥) → op-of n ≡ ge
+op-ge zero p q = absurd (p refl)
+op-ge (suc zero) p q = absurd (q refl)
+op-ge (suc (suc n)) p q = refl
+
+-- Ne and Ge reach the columns of both parts
+pub reached-parts : (n : ℕ) → (n ≡ 0 → ⊥) → (ps : List WeightedShape) (a b : ℕ) → linear-reached (op-of n) ps a b ≡ sign-reached false ps a ++ sign-reached true ps b
+reached-parts zero p ps a b = absurd (p refl)
+reached-parts (suc zero) p ps a b = refl
+reached-parts (suc (suc n)) p ps a b = refl
+
+not-twice : (a b : Bool) → a ≡ not b → a ≡ false → b ≡ true
+not-twice a true p q = refl
+not-twice a false p q = sym q ∙ p
+
+not-once : (a b : Bool) → a ≡ not b → a ≡ true → b ≡ false
+not-once a true p q = sym q ∙ p
+not-once a false p q = refl
+
+-- the test of the positive part, then that of the negative part
+pub first-tall : (n : ℕ) (h : n ≡ 0 → ⊥) (ps : List WeightedShape) (a b : ℕ) (r : Bool) → r ≡ not (too-tall (sign-reached false ps a)) → r ≡ false
+    → false ≡ not (too-tall (linear-reached (op-of n) ps a b))
+first-tall n h ps a b r e f = rw (reached-parts n h ps a b, tall-append (sign-reached false ps a) (sign-reached true ps b), not-twice r (too-tall (sign-reached false ps a)) e f)
+
+pub second-decides : (n : ℕ) (h : n ≡ 0 → ⊥) (ps : List WeightedShape) (a b : ℕ) (r : Bool) → r ≡ not (too-tall (sign-reached false ps a)) → r ≡ true
+    → not (too-tall (sign-reached true ps b)) ≡ not (too-tall (linear-reached (op-of n) ps a b))
+second-decides n h ps a b r e f = rw (reached-parts n h ps a b, tall-append (sign-reached false ps a) (sign-reached true ps b), not-once r (too-tall (sign-reached false ps a)) e f)
+
+-- the clauses of each operation
+module _ (n : ℕ) where
+  pub encode-eq : n ≡ 0 → (ws : List Weighted) (z : ℤ) (a b v : ℕ) → a ≡ up z → b ≡ down z → eq-rule (linear-eq ws a b v) ≡ encode-weighted (op-of n) ws z v
+  encode-eq e ws z a b v p q = rw (e, p, q)
+
+  pub encode-ne : n ≡ 1 → (ws : List Weighted) (z : ℤ) (a b v : ℕ) → a ≡ up z → b ≡ down z → linear-ne ws a b v ≡ encode-weighted (op-of n) ws z v
+  encode-ne e ws z a b v p q = rw (e, p, q)
+
+  pub encode-ge : (n ≡ 0 → ⊥) → (n ≡ 1 → ⊥) → (ws : List Weighted) (z : ℤ) (a b v : ℕ) → a ≡ up z → b ≡ down z → linear-ge ws a b v ≡ encode-weighted (op-of n) ws z v
+  encode-ge h k ws z a b v p q = rw (op-ge n h k, p, q)

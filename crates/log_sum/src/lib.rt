@@ -1,0 +1,476 @@
+// Sums, after `encode_linear_log` and `encode_linear_log_from_encodings` of log.rs: the terms in columns, the two adders, the
+// comparison. A call that is lent no entries only counts.
+ghost use mathlib.Core.Path.{_≡_};
+ghost use mathlib.Core.Bool.{false, not, true};
+ghost use mathlib.Core.List.{[], _∷_, _++_};
+ghost use Prim.Native.Nat.{max, _+_, _-_, _*_, _/_, _≤_, _<_};
+ghost use lib.IntN.{pos, _*ℤ_, _+ℤ_};
+ghost use lib.ListN.{getD, length};
+ghost use Rattle.arithmetic.specs.Bits.{bit-length};
+ghost use Rattle.arithmetic.specs.Integers.{down, up};
+ghost use Rattle.clause_set.specs.Stores.{after};
+ghost use Rattle.norm_csp.specs.Rules.{eq, op-of, terms-of};
+ghost use Rattle.log_adder.specs.Adder2.{eq-adder};
+ghost use Rattle.log_adder.specs.Size.{too-tall};
+ghost use Rattle.log_gather.specs.Arrays.{AllSmall, lits-of};
+ghost use Rattle.log_linear.specs.Added.{add-rule, rule-outcome};
+ghost use Rattle.log_linear.specs.EncodeLinearLog.{encode-linear-log, encode-weighted, eq-rule, offset-constant, weighted, weighted-terms};
+ghost use Rattle.log_linear.specs.Linear.{gather-sign, linear-eq, linear-ge, linear-ne, negated-constant, sign-adder};
+ghost use Rattle.log_linear.specs.Size.{linear-log-reached, linear-reached, sign-reached};
+ghost use Rattle.log_sum.specs.Added.{SumAdded, SumsAdded};
+ghost use Rattle.log_terms.specs.Terms.{TermFits, TermsFit, shapes-all, weighted-all, weighted-of};
+ghost use Rattle.log_sum.specs.Settings.{FirstSmall, SettingReady, TermReady, TermsReady, shape-map-of};
+ghost use Rattle.log_var.specs.Record.{encoding-of, int-map-of};
+use arithmetic::bit_length;
+use arithmetic::code;
+use clause_set::Clause;
+use clause_set::Counts;
+use clause_set::push;
+use log_adder::AdderInput;
+use log_adder::AdderState;
+use log_adder::heights_fit;
+use log_adder::log_encoding_adder;
+use log_adder2::EqInput;
+use log_adder2::eq_heights_fit;
+use log_adder2::log_encoding_adder2;
+use log_gather::larger;
+use log_linear::Bits;
+use log_linear::RuleCounts;
+use log_linear::push_ge;
+use log_linear::push_ne;
+use log_terms::Weighted;
+use log_terms::gather;
+use log_terms::gather_sign;
+use log_terms::negated_constant;
+use log_terms::width_of;
+use log_terms::width_of_sign;
+use log_var::LogEncoding;
+use sat::Lit;
+
+// How many columns the adder of one sign has, with a constant's bits.
+fn adder_width(ts: [Weighted; 7], n: usize, sign: bool, steps: usize, constant: u32) -> usize
+    requires { ⌜ TermsFit steps ts n ⌝ }
+    requires { ⌜ constant < 33554432 ⌝ }
+    ensures { λ r. ⌜ (r ≡ max (length (gather-sign sign (weighted-all ts n) ([] ∷ []))) (bit-length constant)) × (r ≤ 25) ⌝ }
+{
+    let own = width_of_sign(ts, n, sign, steps);
+    let more = bit_length(constant) as usize;
+    larger(own, more)
+}
+
+// Whether no column that the adder of one sign reaches is above 12.
+fn sign_fits(ts: [Weighted; 7], n: usize, sign: bool, steps: usize, constant: u32) -> bool
+    requires { ⌜ TermsFit steps ts n ⌝ }
+    requires { ⌜ constant < 33554432 ⌝ }
+    ensures { λ r. ⌜ r ≡ not (too-tall (sign-reached sign (shapes-all ts n) constant)) ⌝ }
+{
+    let mut counts = [0u32; 32];
+    gather_sign(ts, n, sign, steps, &mut counts);
+    let width = adder_width(ts, n, sign, steps, constant);
+    heights_fit(counts, width, constant)
+}
+
+// The sum of the terms of one sign and a constant.
+fn sign_adder(
+    lits: &mut [u32],
+    ends: &mut [u32],
+    ts: [Weighted; 7],
+    n: usize,
+    sign: bool,
+    steps: usize,
+    constant: u32,
+    vars: u32,
+    at: Counts,
+) -> AdderState
+    requires { ⌜ TermsFit steps ts n ⌝ }
+    requires { ⌜ (constant < 33554432) × (vars ≤ 1048576) × (at .lits ≤ 1073741824) × (at .clauses ≤ 1073741824) ⌝ }
+    requires { ⌜ too-tall (sign-reached sign (shapes-all ts n) constant) ≡ false ⌝ }
+    ensures { λ r. ⌜ SumAdded (now (lits .entry)) (now (ends .entry)) (sign-adder sign (weighted-all ts n) constant vars) vars at (now (lits .exit)) (now (ends .exit)) r ⌝ }
+{
+    let mut counts = [0u32; 32];
+    let cols = gather_sign(ts, n, sign, steps, &mut counts);
+    let width = adder_width(ts, n, sign, steps, constant);
+    let input = AdderInput {
+        width,
+        constant,
+        given: 0,
+    };
+    let given = [Lit(0); 32];
+    log_encoding_adder(lits, ends, cols, counts, given, input, vars, at)
+}
+
+// The bits of a sum's positive and negative part, and the counts after them.
+pub struct Sums {
+    pub positive: Bits,
+    pub negative: Bits,
+    pub vars: u32,
+    pub used: Counts,
+}
+
+// Ne and Ge: the positive part with the constant a, then the negative part with the constant b.
+fn both_sums(
+    lits: &mut [u32],
+    ends: &mut [u32],
+    ts: [Weighted; 7],
+    n: usize,
+    steps: usize,
+    a: u32,
+    b: u32,
+    vars: u32,
+    at: Counts,
+) -> Sums
+    requires { ⌜ TermsFit steps ts n ⌝ }
+    requires { ⌜ (a < 33554432) × (b < 33554432) × (vars ≤ 1000000) × (at .lits ≤ 16777216) × (at .clauses ≤ 16777216) ⌝ }
+    requires { ⌜ too-tall (sign-reached false (shapes-all ts n) a ++ sign-reached true (shapes-all ts n) b) ≡ false ⌝ }
+    ensures { λ r. ⌜ SumsAdded (now (lits .entry)) (now (ends .entry)) (sign-adder false (weighted-all ts n) a vars) (sign-adder true (weighted-all ts n) b) at (now (lits .exit)) (now (ends .exit)) r ⌝ }
+{
+    let p = sign_adder(lits, ends, ts, n, false, steps, a, vars, at);
+    let m = sign_adder(lits, ends, ts, n, true, steps, b, p.vars, p.used);
+    let ps = p.bits;
+    let ms = m.bits;
+    let used = m.used;
+    Sums {
+        positive: Bits {
+            lits: ps,
+            len: p.len,
+        },
+        negative: Bits {
+            lits: ms,
+            len: m.len,
+        },
+        vars: m.vars,
+        used,
+    }
+}
+
+// Ne of terms with the constant a - b.
+fn weighted_ne(
+    lits: &mut [u32],
+    ends: &mut [u32],
+    ts: [Weighted; 7],
+    n: usize,
+    steps: usize,
+    a: u32,
+    b: u32,
+    vars: u32,
+    at: Counts,
+) -> RuleCounts
+    requires { ⌜ TermsFit steps ts n ⌝ }
+    requires { ⌜ (a < 33554432) × (b < 33554432) × (vars ≤ 1000000) × (at .lits ≤ 16777216) × (at .clauses ≤ 16777216) ⌝ }
+    requires { ⌜ too-tall (sign-reached false (shapes-all ts n) a ++ sign-reached true (shapes-all ts n) b) ≡ false ⌝ }
+    ensures { λ r. ⌜ rule-outcome (now (lits .exit)) (now (ends .exit)) r ≡ add-rule (linear-ne (weighted-all ts n) a b vars) (after (now (lits .entry)) (now (ends .entry)) at) ⌝ }
+{
+    let s = both_sums(lits, ends, ts, n, steps, a, b, vars, at);
+    push_ne(lits, ends, s.positive, s.negative, s.vars, s.used)
+}
+
+// Ge of terms with the constant a - b.
+fn weighted_ge(
+    lits: &mut [u32],
+    ends: &mut [u32],
+    ts: [Weighted; 7],
+    n: usize,
+    steps: usize,
+    a: u32,
+    b: u32,
+    vars: u32,
+    at: Counts,
+) -> RuleCounts
+    requires { ⌜ TermsFit steps ts n ⌝ }
+    requires { ⌜ (a < 33554432) × (b < 33554432) × (vars ≤ 1000000) × (at .lits ≤ 16777216) × (at .clauses ≤ 16777216) ⌝ }
+    requires { ⌜ too-tall (sign-reached false (shapes-all ts n) a ++ sign-reached true (shapes-all ts n) b) ≡ false ⌝ }
+    ensures { λ r. ⌜ rule-outcome (now (lits .exit)) (now (ends .exit)) r ≡ add-rule (linear-ge (weighted-all ts n) a b vars) (after (now (lits .entry)) (now (ends .entry)) at) ⌝ }
+{
+    let s = both_sums(lits, ends, ts, n, steps, a, b, vars, at);
+    push_ge(lits, ends, s.positive, s.negative, s.vars, s.used)
+}
+
+// By how much a exceeds b.
+fn excess(a: u32, b: u32) -> u32
+    ensures { λ r. ⌜ r ≡ a - b ⌝ }
+{
+    if b <= a { a - b } else { 0 }
+}
+
+// Eq: what the columns and the constant a have to reach, with the constant b.
+fn eq_target(ts: [Weighted; 7], n: usize, b: u32) -> u32
+    requires { ⌜ TermsFit 12 ts n ⌝ }
+    requires { ⌜ b < 33554432 ⌝ }
+    ensures { λ r. ⌜ (r ≡ b + negated-constant (weighted-all ts n)) × (r ≤ 301989888) ⌝ }
+{
+    b + negated_constant(ts, n)
+}
+
+// Whether no column that Eq reaches is above 12.
+fn eq_fits(ts: [Weighted; 7], n: usize, steps: usize, a: u32, b: u32) -> bool
+    requires { ⌜ TermsFit steps ts n ⌝ }
+    requires { ⌜ (a < 33554432) × (b < 33554432) ⌝ }
+    ensures { λ r. ⌜ r ≡ not (too-tall (linear-reached eq (shapes-all ts n) a b)) ⌝ }
+{
+    let mut counts = [0u32; 32];
+    gather(ts, n, steps, &mut counts);
+    let width = width_of(ts, n, steps);
+    let target = eq_target(ts, n, b);
+    eq_heights_fit(counts, width, excess(a, target), excess(target, a))
+}
+
+// Eq without columns: an empty clause, unless x is y.
+fn eq_constants(
+    lits: &mut [u32],
+    ends: &mut [u32],
+    x: u32,
+    y: u32,
+    vars: u32,
+    at: Counts,
+) -> RuleCounts
+    requires { ⌜ (at .lits ≤ 1073741824) × (at .clauses ≤ 1073741824) ⌝ }
+    ensures { λ r. ⌜ rule-outcome (now (lits .exit)) (now (ends .exit)) r ≡ add-rule (eq-rule (eq-adder [] x y vars)) (after (now (lits .entry)) (now (ends .entry)) at) ⌝ }
+{
+    if x == y {
+        return RuleCounts { vars, used: at };
+    }
+    let used = push(lits, ends, Clause::empty(), 0, at);
+    RuleCounts { vars, used }
+}
+
+// Eq of terms with the constant a - b.
+fn weighted_eq(
+    lits: &mut [u32],
+    ends: &mut [u32],
+    ts: [Weighted; 7],
+    n: usize,
+    steps: usize,
+    a: u32,
+    b: u32,
+    vars: u32,
+    at: Counts,
+) -> RuleCounts
+    requires { ⌜ TermsFit steps ts n ⌝ }
+    requires { ⌜ (a < 33554432) × (b < 33554432) × (vars ≤ 1048576) × (at .lits ≤ 1073741824) × (at .clauses ≤ 1073741824) ⌝ }
+    requires { ⌜ too-tall (linear-reached eq (shapes-all ts n) a b) ≡ false ⌝ }
+    ensures { λ r. ⌜ rule-outcome (now (lits .exit)) (now (ends .exit)) r ≡ add-rule (eq-rule (linear-eq (weighted-all ts n) a b vars)) (after (now (lits .entry)) (now (ends .entry)) at) ⌝ }
+{
+    let mut counts = [0u32; 32];
+    let cols = gather(ts, n, steps, &mut counts);
+    let width = width_of(ts, n, steps);
+    let target = eq_target(ts, n, b);
+    let x = excess(a, target);
+    let y = excess(target, a);
+    if width == 0 {
+        return eq_constants(lits, ends, x, y, vars, at);
+    }
+    let input = EqInput { width, x, y, vars };
+    let s = log_encoding_adder2(lits, ends, cols, counts, input, at);
+    let used = s.used;
+    RuleCounts { vars: s.vars, used }
+}
+
+// The part of a number above 0.
+fn up(z: i32) -> u32
+    requires { ⌜ up z < 33554432 ⌝ }
+    ensures { λ r. ⌜ r ≡ up z ⌝ }
+{
+    if z < 0 {
+        return 0;
+    }
+    code(0, z)
+}
+
+// The part of a number below 0.
+fn down(z: i32) -> u32
+    requires { ⌜ down z < 33554432 ⌝ }
+    ensures { λ r. ⌜ r ≡ down z ⌝ }
+{
+    if z < 0 {
+        return code(z, 0);
+    }
+    0
+}
+
+// Document 01's 13 of a sum of terms: whether no column reached is above 12. Operation 0 is Eq, 1 Ne, 2 Ge.
+pub fn weighted_fit(op: u32, ts: [Weighted; 7], n: usize, steps: usize, constant: i32) -> bool
+    requires { ⌜ TermsFit steps ts n ⌝ }
+    requires { ⌜ (up constant < 33554432) × (down constant < 33554432) ⌝ }
+    ensures { λ r. ⌜ r ≡ not (too-tall (linear-reached (op-of op) (shapes-all ts n) (up constant) (down constant))) ⌝ }
+{
+    let a = up(constant);
+    let b = down(constant);
+    if op == 0 {
+        return eq_fits(ts, n, steps, a, b);
+    }
+    if !sign_fits(ts, n, false, steps, a) {
+        return false;
+    }
+    sign_fits(ts, n, true, steps, b)
+}
+
+// The clauses of a sum of terms, after `encode_linear_log_from_encodings` of log.rs: its columns fit.
+pub fn encode_weighted(
+    lits: &mut [u32],
+    ends: &mut [u32],
+    op: u32,
+    ts: [Weighted; 7],
+    n: usize,
+    steps: usize,
+    constant: i32,
+    vars: u32,
+    at: Counts,
+) -> RuleCounts
+    requires { ⌜ TermsFit steps ts n ⌝ }
+    requires { ⌜ (up constant < 33554432) × (down constant < 33554432) × (vars ≤ 1000000) × (at .lits ≤ 16777216) × (at .clauses ≤ 16777216) ⌝ }
+    requires { ⌜ too-tall (linear-reached (op-of op) (shapes-all ts n) (up constant) (down constant)) ≡ false ⌝ }
+    ensures { λ r. ⌜ rule-outcome (now (lits .exit)) (now (ends .exit)) r ≡ add-rule (encode-weighted (op-of op) (weighted-all ts n) constant vars) (after (now (lits .entry)) (now (ends .entry)) at) ⌝ }
+{
+    let a = up(constant);
+    let b = down(constant);
+    if op == 0 {
+        return weighted_eq(lits, ends, ts, n, steps, a, b, vars, at);
+    }
+    if op == 1 {
+        return weighted_ne(lits, ends, ts, n, steps, a, b, vars, at);
+    }
+    weighted_ge(lits, ends, ts, n, steps, a, b, vars, at)
+}
+
+// How far a number is from 0.
+fn magnitude(z: i32) -> u32
+    requires { ⌜ (up z < 33554432) × (down z < 33554432) ⌝ }
+    ensures { λ r. ⌜ r ≡ up z + down z ⌝ }
+{
+    if z < 0 {
+        return down(z);
+    }
+    up(z)
+}
+
+// Up to twelve literals in the places of a term.
+fn term_lits(lits: [Lit; 12], n: usize) -> [Lit; 32]
+    requires { ⌜ (n ≤ 12) × FirstSmall n lits ⌝ }
+    ensures { λ r. ⌜ (lits-of r n ≡ lits-of lits n) × (length r ≡ 32) × AllSmall r ⌝ }
+{
+    let mut out = [Lit(0); 32];
+    let mut i: usize = 0;
+    while i < n {
+        out[i] = lits[i];
+        i += 1;
+    }
+    out
+}
+
+// A setting's literals with a coefficient.
+fn weighted_setting(e: LogEncoding, coef: i32) -> Weighted
+    requires { ⌜ SettingReady e ⌝ }
+    requires { ⌜ (up coef ≤ 255) × (down coef ≤ 255) ⌝ }
+    ensures { λ r. ⌜ (weighted-of r ≡ weighted coef (encoding-of e .lits)) × TermFits 8 r ⌝ }
+{
+    let own = e.lits;
+    let n = e.len as usize;
+    let lits = term_lits(own, n);
+    Weighted {
+        negative: coef < 0,
+        coef: magnitude(coef),
+        lits,
+        len: n,
+    }
+}
+
+// The setting of term i.
+fn setting_at(terms: &[i32], i: usize) -> usize
+    requires { ⌜ 2 * i + 1 < length (now terms) ⌝ }
+    requires { ⌜ TermReady (getD (now terms) (2 * i) (pos 0)) (getD (now terms) (2 * i + 1) (pos 0)) ⌝ }
+    ensures { λ r. ⌜ (r ≡ up (getD (now (terms .entry)) (2 * i) (pos 0))) × (r < 32) ⌝ }
+{
+    let x = terms[2 * i];
+    up(x) as usize
+}
+
+// The coefficient of term i.
+fn coef_at(terms: &[i32], i: usize) -> i32
+    requires { ⌜ 2 * i + 1 < length (now terms) ⌝ }
+    ensures { λ r. ⌜ r ≡ getD (now (terms .entry)) (2 * i + 1) (pos 0) ⌝ }
+{
+    terms[2 * i + 1]
+}
+
+// A sum's terms by their settings' literals; the list has setting, coefficient, in turn.
+fn weighted_terms(encodings: [LogEncoding; 32], terms: &[i32]) -> [Weighted; 7]
+    requires { ⌜ TermsReady encodings (now terms) ⌝ }
+    ensures { λ r. ⌜ (weighted-all r (length (now (terms .entry)) / 2) ≡ weighted-terms (int-map-of encodings) (terms-of (now (terms .entry)))) × TermsFit 8 r (length (now (terms .entry)) / 2) ⌝ }
+{
+    let none = Weighted {
+        negative: false,
+        coef: 0,
+        lits: [Lit(0); 32],
+        len: 0,
+    };
+    let mut ts = [none; 7];
+    let n = terms.len() / 2;
+    let mut i: usize = 0;
+    while i < n {
+        let x = setting_at(terms, i);
+        let e = encodings[x];
+        let t = weighted_setting(e, coef_at(terms, i));
+        ts[i] = t;
+        i += 1;
+    }
+    ts
+}
+
+// A coefficient times an offset, added to what is there.
+fn add_offset(sum: i32, coef: i32, offset: i32) -> i32
+    requires { ⌜ (up sum ≤ 16777216) × (down sum ≤ 16777216) ⌝ }
+    requires { ⌜ (up coef ≤ 255) × (down coef ≤ 255) × (up offset ≤ 4095) × (down offset ≤ 4095) ⌝ }
+    ensures { λ r. ⌜ (r ≡ (coef *ℤ offset) +ℤ sum) × (up r ≤ up sum + 1044225) × (down r ≤ down sum + 1044225) ⌝ }
+{
+    coef * offset + sum
+}
+
+// The constant plus every coefficient times its setting's offset.
+fn offset_constant(encodings: [LogEncoding; 32], constant: i32, terms: &[i32]) -> i32
+    requires { ⌜ TermsReady encodings (now terms) ⌝ }
+    requires { ⌜ (up constant ≤ 1000000) × (down constant ≤ 1000000) ⌝ }
+    ensures { λ r. ⌜ (r ≡ offset-constant (int-map-of encodings) constant (terms-of (now (terms .entry)))) × (up r < 33554432) × (down r < 33554432) ⌝ }
+{
+    let n = terms.len() / 2;
+    let mut sum = constant;
+    let mut i: usize = 0;
+    while i < n {
+        let x = setting_at(terms, i);
+        let e = encodings[x];
+        sum = add_offset(sum, coef_at(terms, i), e.offset);
+        i += 1;
+    }
+    sum
+}
+
+// Document 01's 13 of a sum over the settings' records: whether no column reached is above 12.
+pub fn linear_fits(encodings: [LogEncoding; 32], op: u32, constant: i32, terms: &[i32]) -> bool
+    requires { ⌜ TermsReady encodings (now terms) ⌝ }
+    requires { ⌜ (up constant ≤ 1000000) × (down constant ≤ 1000000) ⌝ }
+    ensures { λ r. ⌜ r ≡ not (too-tall (linear-log-reached (shape-map-of encodings) (op-of op) constant (terms-of (now (terms .entry))))) ⌝ }
+{
+    let ts = weighted_terms(encodings, terms);
+    let k = offset_constant(encodings, constant, terms);
+    weighted_fit(op, ts, terms.len() / 2, 8, k)
+}
+
+// The clauses of a sum over the settings' records, after `encode_linear_log` of log.rs: its columns fit.
+pub fn encode_linear_log(
+    lits: &mut [u32],
+    ends: &mut [u32],
+    encodings: [LogEncoding; 32],
+    op: u32,
+    constant: i32,
+    terms: &[i32],
+    vars: u32,
+    at: Counts,
+) -> RuleCounts
+    requires { ⌜ TermsReady encodings (now terms) ⌝ }
+    requires { ⌜ (up constant ≤ 1000000) × (down constant ≤ 1000000) × (vars ≤ 65535) × (at .lits ≤ 16777216) × (at .clauses ≤ 16777216) ⌝ }
+    requires { ⌜ too-tall (linear-log-reached (shape-map-of encodings) (op-of op) constant (terms-of (now terms))) ≡ false ⌝ }
+    ensures { λ r. ⌜ rule-outcome (now (lits .exit)) (now (ends .exit)) r ≡ add-rule (encode-linear-log (int-map-of encodings) (op-of op) constant (terms-of (now (terms .entry))) vars) (after (now (lits .entry)) (now (ends .entry)) at) ⌝ }
+{
+    let ts = weighted_terms(encodings, terms);
+    let k = offset_constant(encodings, constant, terms);
+    encode_weighted(lits, ends, op, ts, terms.len() / 2, 8, k, vars, at)
+}

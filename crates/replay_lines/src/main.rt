@@ -1,0 +1,49 @@
+// Answers each line of standard input as a script of its own (crate `script`): a line that cannot be read prints `bad line 1`, and the
+// next is answered all the same. So one input tries lines of every kind.
+use libc::STDIN_FILENO;
+use script::Part;
+ghost use Prim.Native.Nat.{_≤_};
+ghost use lib.ListN.{length};
+
+// One line, on a job and stores of all 0.
+fn run_line(line: lines::Line, nums: &mut [i64], lits: &mut [u32], ends: &mut [u32])
+    requires { ⌜ (8192 ≤ length (now lits)) × (4096 ≤ length (now ends)) ⌝ }
+{
+    script::clear(lits);
+    script::clear(ends);
+    let start = script::start();
+    let run = start.run;
+    script::finish(Part { line, run }, nums, lits, ends);
+}
+
+fn run_lines(s: &[u8], nums: &mut [i64], lits: &mut [u32], ends: &mut [u32])
+    requires { ⌜ (8192 ≤ length (now lits)) × (4096 ≤ length (now ends)) ⌝ }
+{
+    let mut at: usize = 0;
+    while at < s.len() {
+        let fed = lines::feed(nums, lines::line_start(), s, at);
+        let to = fed.at;
+        let line = fed.line;
+        run_line(line, nums, lits, ends);
+        if to == s.len() {
+            return;
+        }
+        at = to + 1;
+    }
+}
+
+// The lines of standard input, which has at most 524,288 bytes.
+fn run_input(nums: &mut [i64], lits: &mut [u32], ends: &mut [u32])
+    requires { ⌜ (8192 ≤ length (now lits)) × (4096 ≤ length (now ends)) ⌝ }
+{
+    let mut input = [0u8; 524288];
+    let n = io::read_full(STDIN_FILENO, &mut input);
+    run_lines(&input[..n], nums, lits, ends);
+}
+
+fn main() {
+    let mut nums = [0i64; 65537];
+    let mut lits = [0u32; 524288];
+    let mut ends = [0u32; 131072];
+    run_input(&mut nums, &mut lits, &mut ends);
+}

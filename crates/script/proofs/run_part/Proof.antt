@@ -1,0 +1,98 @@
+-- `script::run_part` meets its contract.
+use Rattle.script.specs.Run.{Lent}
+use native.Mathlib.Omega.{arith}
+use lib.ListN.{length}
+use mathlib.Core.Path.{_≡_}
+use Prim.Native.Nat.{_-_}
+use borrow.Author.Needs.{needs}
+use Rattle.script.proofs.run_part.Statement.{statement}
+use Rattle.script.proofs.run_part.Tie as tie
+
+abbrev Inv-loop : tie.InvT-loop
+Inv-loop s nums₀ lits₀ ends₀ line₀ run₀ at₀ nums lits ends line run at = (length lits ≡ length lits₀) × (length ends ≡ length ends₀) × (length nums ≡ length nums₀) × Lent run lits ends
+
+abbrev μ-loop : tie.MeasureT-loop
+μ-loop s nums₀ lits₀ ends₀ line₀ run₀ at₀ nums lits ends line run at = length s - at
+
+loop-holds : tie.Need-loop-holds Inv-loop μ-loop
+loop-holds c = search needs
+
+feed-requires : tie.Need-feed-requires Inv-loop μ-loop
+feed-requires c κs = search needs
+
+same-length : tie.Need-same-length Inv-loop μ-loop
+same-length c = search needs
+
+same-length-2 : tie.Need-same-length-2 Inv-loop μ-loop
+same-length-2 c = search needs
+
+same-length-3 : tie.Need-same-length-3 Inv-loop μ-loop
+same-length-3 c = search needs
+
+returns : tie.Need-returns Inv-loop μ-loop
+returns c = search needs
+
+end-line-requires : tie.Need-end-line-requires Inv-loop μ-loop
+end-line-requires c κs = search needs
+
+line-start-requires : tie.Need-line-start-requires Inv-loop μ-loop
+line-start-requires c κs = search needs
+
+same-length-4 : tie.Need-same-length-4 Inv-loop μ-loop
+same-length-4 c = omega (arith, c .before .before .before .before .before .before .before .before .before .before .before .before .before .before .before .before .before .before .loop .inv, c .before .before .before .before .before .before .before .before .before .before .before .before .before .before .before .feed .kept, c .before .before .before .before .before .before .before .before .end-line .kept)
+
+same-length-5 : tie.Need-same-length-5 Inv-loop μ-loop
+same-length-5 c = omega (arith, c .before .before .before .before .before .before .before .before .before .before .before .before .before .before .before .before .before .before .loop .inv, c .before .before .before .before .before .before .before .before .before .before .before .before .before .before .before .feed .kept, c .before .before .before .before .before .before .before .before .end-line .kept)
+
+same-length-6 : tie.Need-same-length-6 Inv-loop μ-loop
+same-length-6 c = omega (arith, c .before .before .before .before .before .before .before .before .before .before .before .before .before .before .before .before .before .before .loop .inv, c .before .before .before .before .before .before .before .before .before .before .before .before .before .before .before .feed .kept, c .before .before .before .before .before .before .before .before .end-line .kept)
+
+returns-2 : tie.Need-returns-2 Inv-loop μ-loop
+returns-2 c = search needs
+
+add-at : tie.Need-add-at Inv-loop μ-loop
+add-at c = omega (arith, c .before .before .before .before .before .before .before .before .before .before .before .before .before .before .before .feed .ensures .fed .from, c .before .before .before .before .before .before .before .before .before .before .before .before .before .before .before .feed .ensures .fed .within, c .before .before .before .before .before .before .before .before .before .before .before .before .if1 .left, c .before .before .before .before .before .before .before .before .before .before .before .before .before .before .before .before .before .before .before .before .before .before .before .before .good .0 .0)
+
+loop-less : tie.Need-loop-less Inv-loop μ-loop
+loop-less c = omega (arith, c .before .before .before .before .before .before .before .before .before .before .before .before .before .before .before .feed .ensures .fed .from, c .before .before .before .before .before .before .before .before .before .before .before .before .before .before .before .feed .ensures .fed .within, c .before .before .before .before .before .before .before .before .before .before .before .before .if1 .left, c .before .before .before .before .before .before .before .before .before .before .before .before .before .before .before .before .before .loop-test .taken)
+
+loop-again : tie.Need-loop-again Inv-loop μ-loop
+loop-again c = (omega (arith, c .before .before .before .before .before .before .before .before .before .before .before .before .before .before .before .before .before .before .loop .inv .0, c .before .before .before .before .before .before .before .before .end-line .kept), omega (arith, c .before .before .before .before .before .before .before .before .before .before .before .before .before .before .before .before .before .before .loop .inv .1, c .before .before .before .before .before .before .before .before .end-line .kept), omega (arith, c .before .before .before .before .before .before .before .before .before .before .before .before .before .before .before .before .before .before .loop .inv .2, c .before .before .before .before .before .before .before .before .before .before .before .before .before .before .before .feed .kept, c .before .before .before .before .before .before .before .before .end-line .kept), c .before .before .before .before .before .before .before .before .end-line .ensures)
+
+same-length-7 : tie.Need-same-length-7 Inv-loop μ-loop
+same-length-7 c = search needs
+
+same-length-8 : tie.Need-same-length-8 Inv-loop μ-loop
+same-length-8 c = search needs
+
+same-length-9 : tie.Need-same-length-9 Inv-loop μ-loop
+same-length-9 c = search needs
+
+returns-3 : tie.Need-returns-3 Inv-loop μ-loop
+returns-3 c = search needs
+
+pub run-part-spec : {M : Type 1} → statement M
+run-part-spec =
+    tie.close
+    (tie.spec
+    Inv-loop
+    μ-loop
+    loop-holds
+    feed-requires
+    same-length
+    same-length-2
+    same-length-3
+    returns
+    end-line-requires
+    line-start-requires
+    same-length-4
+    same-length-5
+    same-length-6
+    returns-2
+    add-at
+    loop-less
+    loop-again
+    same-length-7
+    same-length-8
+    same-length-9
+    returns-3)
