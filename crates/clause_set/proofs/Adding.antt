@@ -11,7 +11,8 @@ use Rattle.sat.specs.Size.{entries}
 use Rattle.clause_set.specs.declared.Counts.{Counts}
 use Rattle.sat.specs.declared.Lit.{Lit}
 use Rattle.clause_set.specs.declared.Clause.{Clause}
-use Rattle.clause_set.specs.Clause.{clause-lits, num}
+use Rattle.clause_set.specs.Clause.{clause-lits}
+use Rattle.sat.specs.LitArray.{num}
 use Rattle.clause_set.specs.Stores.{Stores, stores, after, add-clause, add-clauses, Fits}
 
 pub sets-append : (a l : List ℕ) (i : ℕ) (b : List ℕ) → sets l i (a ++ b) ≡ sets (sets l i a) (i + length a) b

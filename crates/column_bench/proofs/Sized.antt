@@ -1,9 +1,10 @@
 -- The benchmark's columns are within bounds.
-use Prim.Native.Nat.{ℕ, zero, suc, _+_, _/_, _^_, _≤_, _<_}
+use Prim.Native.Nat.{ℕ, zero, suc, _+_, _^_, _≤_, _<_}
 use native.Mathlib.Omega.{arith}
 use mathlib.Core.List.{List, [], _∷_, map}
 use lib.Dec.{lit<}
-use Rattle.log_adder.specs.ColumnInfo.{AllLow, ColumnSized, lit}
+use Rattle.log_adder.specs.ColumnInfo.{AllLow, ColumnSized}
+use Rattle.sat.specs.LitArray.{lit}
 use Rattle.column_bench.specs.BenchColumn.{bench-column, bench-own}
 
 -- numbers below 2 ^ 31, place by place

@@ -3,7 +3,8 @@ use Prim.Native.Nat.{ℕ, _+_, _/_}
 use mathlib.Core.List.{List, [], _∷_, map}
 use Rattle.sat.specs.declared.Lit.{Lit}
 use Rattle.log_adder.specs.declared.ColumnInfo.{ColumnInfo}
-use Rattle.log_adder.specs.ColumnInfo.{column-clauses, lit}
+use Rattle.log_adder.specs.ColumnInfo.{column-clauses}
+use Rattle.sat.specs.LitArray.{lit}
 use Rattle.clause_set.specs.Stores.{Stores, add-clauses, stores}
 
 -- twelve own literals

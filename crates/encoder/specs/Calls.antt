@@ -6,13 +6,14 @@ use lib.ListN.{getD, length, replicate, set}
 use lib.Signed.{ltZ}
 use mathlib.Core.Bool.{Bool, _&&_}
 use mathlib.Core.List.{List, [], _++_, _∷_}
+use Rattle.sat.specs.LitArray.{lit}
 use Rattle.norm_csp.specs.Domain.{IntVarRepresentation, binary, list, range}
 use Rattle.log_var.specs.EncodeVarLog.{EncodedVar, encode-var-log}
 use Rattle.log_var.specs.Record.{read-bytes, record-of}
 use Rattle.log_var.specs.declared.LogEncoding.{LogEncoding}
 use Rattle.clause_set.specs.Stores.{clause-at}
 use Rattle.encoder_env.specs.declared.EncoderEnv.{EncoderEnv}
-use Rattle.encoder_env.specs.WellFormed.{all-below, bounds-hold, code-fits, encoding-at, in-range, no-lit, stores-within, well-formed}
+use Rattle.encoder_env.specs.WellFormed.{all-below, bounds-hold, code-fits, encoding-at, in-range, stores-within, well-formed}
 use Rattle.encoder.specs.Adding.{adding, grown}
 use Rattle.encoder.specs.Outcome.{Check, Outcome, check, settled, status-of}
 
@@ -20,7 +21,7 @@ use Rattle.encoder.specs.Outcome.{Check, Outcome, check, settled, status
 
 -- a spare record: all 0
 abbrev pub spare : LogEncoding
-spare = record { lits = replicate 12 no-lit; len = 0; low = pos 0; high = pos 0; offset = pos 0 }
+spare = record { lits = replicate 12 (lit 0); len = 0; low = pos 0; high = pos 0; offset = pos 0 }
 
 -- the job with that many switches and nothing else
 abbrev pub opened : ℕ → EncoderEnv

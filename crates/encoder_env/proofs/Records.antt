@@ -15,13 +15,13 @@ use Rattle.arithmetic.specs.Offset.{code, offset-of}
 use Rattle.arithmetic.proofs.Integers.{apart-read, order-read}
 use Rattle.sat.specs.Encodes.{LitsBelow}
 use Rattle.sat.specs.declared.Lit.{Lit}
-use Rattle.clause_set.specs.Clause.{num}
+use Rattle.sat.specs.LitArray.{lit, num}
 use Rattle.log_var.specs.LogEncoding.{LogEncoding}
 use Rattle.log_var.proofs.Bounds.{Recorded, codes-fit}
-use Rattle.log_var.specs.Record.{lit, lits-of, pad, record-of}
+use Rattle.log_var.specs.Record.{lits-of, pad, record-of}
 use Rattle.log_var.specs.declared.LogEncoding.{LogEncoding as Encoding}
 use Rattle.encoder_env.specs.declared.EncoderEnv.{EncoderEnv}
-use Rattle.encoder_env.specs.WellFormed.{all-below, bounds-hold, encoding-at, encoding-holds, eqz, in-range, is-spare, lit-fits, lits-fit, no-lit, record-holds}
+use Rattle.encoder_env.specs.WellFormed.{all-below, bounds-hold, encoding-at, encoding-holds, eqz, in-range, is-spare, lit-fits, lits-fit, record-holds}
 use Rattle.encoder_env.proofs.Kept.{Kept, all-at, holds-in-use, in-use}
 use Rattle.encoder_env.proofs.Tests.{both-l, both-r, eqz-refl, order-lez}
 
@@ -33,16 +33,16 @@ all-true f (suc n) h = rw (all-true f n (λ i k. h i (omega arith)), h n (omega 
 
 -- Literals -----------------------------------------------------------------------------------------------------------
 
-each-below : (v n : ℕ) (ls : List Lit) → ((i : ℕ) → i < n → getD ls i no-lit .0 < 2 * v) → LitsBelow v (map num (take n ls))
+each-below : (v n : ℕ) (ls : List Lit) → ((i : ℕ) → i < n → getD ls i (lit 0) .0 < 2 * v) → LitsBelow v (map num (take n ls))
 each-below v zero ls h = tt
 each-below v (suc n) [] h = tt
 each-below v (suc n) (l ∷ ls) h = (h 0 (omega arith), each-below v n ls (λ i k. h (suc i) (omega arith)))
 
-fit-below : (v : ℕ) (e : Encoding) → e .len ≤ 12 → lits-fit v (e .len) (e .lits) ≡ true → (i : ℕ) → i < e .len → getD (e .lits) i no-lit .0 < 2 * v
+fit-below : (v : ℕ) (e : Encoding) → e .len ≤ 12 → lits-fit v (e .len) (e .lits) ≡ true → (i : ℕ) → i < e .len → getD (e .lits) i (lit 0) .0 < 2 * v
 fit-below v e n h i k = go (ltb i (e .len)) (lt-ltb i (e .len) k) (all-at (lit-fits v (e .len) (e .lits)) 12 i h (omega arith))
   where
-    go : (t : Bool) → t ≡ true → cond t (ltb (getD (e .lits) i no-lit .0) (2 * v)) (eqb (getD (e .lits) i no-lit .0) 0) ≡ true → getD (e .lits) i no-lit .0 < 2 * v
-    go true k l = ltb-true (getD (e .lits) i no-lit .0) (2 * v) l
+    go : (t : Bool) → t ≡ true → cond t (ltb (getD (e .lits) i (lit 0) .0) (2 * v)) (eqb (getD (e .lits) i (lit 0) .0) 0) ≡ true → getD (e .lits) i (lit 0) .0 < 2 * v
+    go true k l = ltb-true (getD (e .lits) i (lit 0) .0) (2 * v) l
     go false k l = absurd (false≢true k)
 
 -- the literals of a record in use are below 2 × variables
@@ -50,7 +50,7 @@ module _ (env : EncoderEnv) (lits ends x : ℕ) (k : Kept env lits ends) (h : x 
   abbrev e : Encoding
   e = encoding-at env x
 
-  pub lit-known : (i : ℕ) → i < e .len → getD (e .lits) i no-lit .0 < 2 * env .variables
+  pub lit-known : (i : ℕ) → i < e .len → getD (e .lits) i (lit 0) .0 < 2 * env .variables
   unfolding encoding-holds
   lit-known =
       fit-below (env .variables) e (in-use env lits ends x k h .len-max)
@@ -63,8 +63,8 @@ module _ (env : EncoderEnv) (lits ends x : ℕ) (k : Kept env lits ends) (h : x 
 lits-more : (v w len : ℕ) (ls : List Lit) → v ≤ w → lits-fit v len ls ≡ true → lits-fit w len ls ≡ true
 lits-more v w len ls le h = all-true (lit-fits w len ls) 12 (λ i k. go i (ltb i len) (all-at (lit-fits v len ls) 12 i h k))
   where
-    go : (i : ℕ) (t : Bool) → cond t (ltb (getD ls i no-lit .0) (2 * v)) (eqb (getD ls i no-lit .0) 0) ≡ true → cond t (ltb (getD ls i no-lit .0) (2 * w)) (eqb (getD ls i no-lit .0) 0) ≡ true
-    go i true l = lt-ltb (getD ls i no-lit .0) (2 * w) (omega (arith, ltb-true (getD ls i no-lit .0) (2 * v) l))
+    go : (i : ℕ) (t : Bool) → cond t (ltb (getD ls i (lit 0) .0) (2 * v)) (eqb (getD ls i (lit 0) .0) 0) ≡ true → cond t (ltb (getD ls i (lit 0) .0) (2 * w)) (eqb (getD ls i (lit 0) .0) 0) ≡ true
+    go i true l = lt-ltb (getD ls i (lit 0) .0) (2 * w) (omega (arith, ltb-true (getD ls i (lit 0) .0) (2 * v) l))
     go i false l = l
 
 pub encoding-more : (v w : ℕ) (e : Encoding) → v ≤ w → encoding-holds v e ≡ true → encoding-holds w e ≡ true
@@ -86,17 +86,17 @@ records-more env job c e v h = all-true (record-holds job) 32 (λ i k. rw (c, e)
 
 -- A new record -------------------------------------------------------------------------------------------------------
 
-at-in : (ls : List ℕ) (r : List Lit) (i : ℕ) → i < length ls → getD (map lit ls ++ r) i no-lit .0 ≡ getD ls i 0
+at-in : (ls : List ℕ) (r : List Lit) (i : ℕ) → i < length ls → getD (map lit ls ++ r) i (lit 0) .0 ≡ getD ls i 0
 at-in [] r i h = absurd (omega arith)
 at-in (l ∷ ls) r zero h = refl
 at-in (l ∷ ls) r (suc i) h = at-in ls r i (omega arith)
 
-no-lits : (n i : ℕ) → getD (replicate n (lit 0)) i no-lit .0 ≡ 0
+no-lits : (n i : ℕ) → getD (replicate n (lit 0)) i (lit 0) .0 ≡ 0
 no-lits zero i = refl
 no-lits (suc n) zero = refl
 no-lits (suc n) (suc i) = no-lits n i
 
-at-out : (ls : List ℕ) (n i : ℕ) → length ls ≤ i → getD (map lit ls ++ replicate n (lit 0)) i no-lit .0 ≡ 0
+at-out : (ls : List ℕ) (n i : ℕ) → length ls ≤ i → getD (map lit ls ++ replicate n (lit 0)) i (lit 0) .0 ≡ 0
 at-out [] n i h = no-lits n i
 at-out (l ∷ ls) n zero h = absurd (omega arith)
 at-out (l ∷ ls) n (suc i) h = at-out ls n i (omega arith)
@@ -110,11 +110,11 @@ padded-fit : (v : ℕ) (ls : List ℕ) → LitsBelow v ls → lits-fit v (length
 unfolding pad
 padded-fit v ls b = all-true (lit-fits v (length ls) (pad ls)) 12 (λ i k. go i (ltb i (length ls)) refl)
   where
-    go : (i : ℕ) (t : Bool) → ltb i (length ls) ≡ t → cond t (ltb (getD (pad ls) i no-lit .0) (2 * v)) (eqb (getD (pad ls) i no-lit .0) 0) ≡ true
+    go : (i : ℕ) (t : Bool) → ltb i (length ls) ≡ t → cond t (ltb (getD (pad ls) i (lit 0) .0) (2 * v)) (eqb (getD (pad ls) i (lit 0) .0) 0) ≡ true
     go i true e =
         let h = ltb-true i (length ls) e in
-        lt-ltb (getD (pad ls) i no-lit .0) (2 * v) (omega (arith, at-in ls (replicate (12 - length ls) (lit 0)) i h, below-at v ls i b h))
-    go i false e = eq-eqb (getD (pad ls) i no-lit .0) 0 (at-out ls (12 - length ls) i (ltb-false i (length ls) e))
+        lt-ltb (getD (pad ls) i (lit 0) .0) (2 * v) (omega (arith, at-in ls (replicate (12 - length ls) (lit 0)) i h, below-at v ls i b h))
+    go i false e = eq-eqb (getD (pad ls) i (lit 0) .0) 0 (at-out ls (12 - length ls) i (ltb-false i (length ls) e))
 
 bounds-of : (low high : ℤ) → low ≤ℤ high → down low ≤ 4095 → code (offset-of low) high < 4096 → bounds-hold low high ≡ true
 unfolding bounds-hold

@@ -6,6 +6,7 @@ use lib.ListN.{getD}
 use lib.Signed.{leZ}
 use mathlib.Core.Bool.{Bool, _&&_, cond, false, true}
 use mathlib.Core.List.{List}
+use Rattle.sat.specs.LitArray.{lit}
 use Rattle.arithmetic.specs.Bits.{bit-length}
 use Rattle.arithmetic.specs.Offset.{code, offset-of}
 use Rattle.sat.specs.declared.Lit.{Lit}
@@ -45,12 +46,9 @@ bounds-hold low high = in-range low && in-range high && lez low high && code-fit
 unfoldable pub stores-within : ℕ → ℕ → Bool
 stores-within lits ends = leb lits 16777216 && leb ends 16777216
 
-abbrev pub no-lit : Lit
-no-lit = record { 0 = 0 }
-
 -- a literal in use is below 2 × variables, an unused place is 0
 abbrev pub lit-fits : ℕ → ℕ → List Lit → ℕ → Bool
-lit-fits variables len lits i = cond (ltb i len) (ltb (getD lits i no-lit .0) (2 * variables)) (eqb (getD lits i no-lit .0) 0)
+lit-fits variables len lits i = cond (ltb i len) (ltb (getD lits i (lit 0) .0) (2 * variables)) (eqb (getD lits i (lit 0) .0) 0)
 
 abbrev pub lits-fit : ℕ → ℕ → List Lit → Bool
 lits-fit variables len lits = all-below 12 (lit-fits variables len lits)

@@ -16,7 +16,8 @@ use Rattle.clause_set.specs.Stores.{after}
 use Rattle.clause_set.proofs.Adding.{count-after, used-after}
 use Rattle.sat.specs.Encoded.{EncodedBits}
 use Rattle.log_adder.specs.Adder.{adder, extend, tail}
-use Rattle.log_adder.specs.ColumnInfo.{lit, num, range-lits}
+use Rattle.log_adder.specs.ColumnInfo.{range-lits}
+use Rattle.sat.specs.LitArray.{lit, num}
 use Rattle.log_adder.specs.AdderState.{AdderAdded, AdderCounted, ColumnAdded, InBounds, Outcome, adder-output, carry-count, input-columns, outcome, state-bits, then}
 use Rattle.log_adder.proofs.ColumnsLeft.{add-column-then, adder-end, adder-step, extend-end, extend-step, given-result, given-tail, given-vars, then-no-more}
 use Rattle.log_adder.proofs.Heights.{column-fits, fits-step, tall-from}

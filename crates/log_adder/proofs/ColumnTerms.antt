@@ -23,7 +23,8 @@ use Rattle.mixed.proofs.Flip.{flip-snoc, length-flip}
 use Rattle.mixed.proofs.Bound.{bounded-count, bounded-total, sizes}
 use Rattle.log_adder.specs.Column.{column, ge-terms, le-terms}
 use Rattle.sat.specs.Fresh.{fresh}
-use Rattle.log_adder.specs.ColumnInfo.{ColumnSized, column-clauses, column-infos, lit, lit-info, num, own-lits, range-info, range-lits}
+use Rattle.log_adder.specs.ColumnInfo.{ColumnSized, column-clauses, column-infos, lit-info, own-lits, range-info, range-lits}
+use Rattle.sat.specs.LitArray.{lit, num}
 
 fresh-last : (k v : ℕ) → fresh (suc k) v ≡ fresh k v ++ (2 * (v + k) ∷ [])
 fresh-last zero v = ap (λ (x : ℕ). x ∷ []) (omega arith)

@@ -20,7 +20,8 @@ use Rattle.log_adder.specs.Column.{column}
 use Rattle.log_adder.specs.Adder.{AdderColumn, add-column, adder, carry-size, empty-column, extend, joined, no-more-columns, result, result-vars, tail}
 use Rattle.sat.specs.Encoded.{EncodedBits}
 use Rattle.sat.specs.Fresh.{fresh}
-use Rattle.log_adder.specs.ColumnInfo.{column-clauses, lit, num, range-lits}
+use Rattle.log_adder.specs.ColumnInfo.{column-clauses, range-lits}
+use Rattle.sat.specs.LitArray.{lit, num}
 use Rattle.log_adder.specs.AdderState.{ColumnAdded, carry-count, column-info, input-columns, result-count, result-lit, state-bits, then}
 use Rattle.sat.proofs.Fresh.{length-fresh}
 

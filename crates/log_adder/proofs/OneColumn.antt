@@ -17,7 +17,8 @@ use Rattle.log_adder.specs.declared.AdderState.{AdderState}
 use Rattle.clause_set.specs.Stores.{Stores, Within, add-clauses, after, stores}
 use Rattle.clause_set.proofs.Adding.{count-after, used-after}
 use Rattle.clause_set.proofs.Tails.{lent-added, tail}
-use Rattle.log_adder.specs.ColumnInfo.{ColumnSized, column-clauses, lit, num}
+use Rattle.log_adder.specs.ColumnInfo.{ColumnSized, column-clauses}
+use Rattle.sat.specs.LitArray.{lit, num}
 use Rattle.log_adder.specs.AdderState.{ColumnAdded, ColumnReady, InBounds, carry-count, next-carry, result-count, result-lit}
 use Rattle.log_adder.proofs.ColumnWritten.{column-count, column-total}
 

@@ -13,6 +13,7 @@ use mathlib.Core.Path.{_∙_, _≡_, ap, refl}
 use native.Mathlib.Omega.{arith}
 use Rattle.arithmetic.specs.Integers.{div-ceil, div-floor, down, low-bit, shift, up}
 use Rattle.arithmetic.proofs.Integers.{add-read, apart-read, bit-read, ceil-read, floor-read, lt-read, neg-reads, shift-next, shift-none}
+use Rattle.sat.proofs.Fresh.{length-fresh}
 use Rattle.sat.specs.Clause.{Clauses}
 use Rattle.sat.specs.Fresh.{fresh}
 use Rattle.sat.specs.Lit.{neg}
@@ -176,10 +177,6 @@ module _ (k l h : ℤ) (m rest x y : ℕ) (wide : up h + down l ≡ down h + up 
 
 -- The columns --------------------------------------------------------------------------------------------------------
 
-fresh-length : (n v : ℕ) → length (fresh n v) ≡ n
-fresh-length zero v = refl
-fresh-length (suc n) v = ap suc (fresh-length n (suc v))
-
 -- a column but the last, and the adders that go on from it
 module _ (own : List Signed) (carry : Carry) (k : ℤ) (v x y rest : ℕ) (fits : Fits carry) (apart : min x y ≡ 0)
     (sum : up k + up (carry .low) + y ≡ down k + down (carry .low) + (minuses own + 2 * rest) + x)
@@ -217,7 +214,7 @@ module _ (own : List Signed) (carry : Carry) (k : ℤ) (v x y rest : ℕ) (fits 
       let wide = span k l h size rest x y width apart left a in
       let many : up (next .high -ℤ next .low) ≡ (size - odd) / 2 =
       omega (arith, add-read (next .high) (negℤ (next .low)), neg-reads (next .low), apart-read (next .high -ℤ next .low)) in
-      let lits : length (next .lits) ≡ (size - odd) / 2 = fresh-length (up (next .high -ℤ next .low)) v ∙ many in
+      let lits : length (next .lits) ≡ (size - odd) / 2 = length-fresh (up (next .high -ℤ next .low)) v ∙ many in
       let fit : Fits next = omega arith in
       let column : encode-eq (column-infos own carry next) (low-bit k) ≡ eq-column (map positive-lit own) (carry .lits) 0 (next .lits) odd =
       column-is carry next fits fit own (low-bit k) 0 odd

@@ -2,8 +2,8 @@
 use Prim.Native.Nat.{ℕ, zero, suc, _+_, _*_, _/_, _%_, _^_, _≤_, _<_}
 use mathlib.Core.Path.{_≡_}
 use mathlib.Core.Bool.{Bool, cond}
-use mathlib.Core.List.{List, [], _∷_, _++_, map}
-use lib.ListN.{take, getD, length}
+use mathlib.Core.List.{List, [], _∷_, _++_}
+use lib.ListN.{getD, length}
 use Rattle.sat.specs.Size.{entries}
 use Rattle.sat.specs.declared.Lit.{Lit}
 use Rattle.clause_set.specs.declared.Counts.{Counts}
@@ -15,7 +15,8 @@ use Rattle.log_adder.specs.declared.AdderState.{AdderState}
 use Rattle.clause_set.specs.Stores.{Stores, add-clauses, after}
 use Rattle.log_adder.specs.Adder.{AdderColumn, adder, extend}
 use Rattle.sat.specs.Encoded.{EncodedBits}
-use Rattle.log_adder.specs.ColumnInfo.{AllLow, column-clauses, lit, num, range-lits}
+use Rattle.log_adder.specs.ColumnInfo.{AllLow, column-clauses, range-lits}
+use Rattle.sat.specs.LitArray.{first-lits, lit}
 
 -- What an adder leaves: the stores, the literals of the sum's bits, the variables counted ----------------------------
 pub record Outcome : Type 0 where
@@ -28,18 +29,22 @@ abbrev pub then : Stores → List ℕ → EncodedBits → Outcome
 then s bs rest = record { stores = add-clauses 0 (rest .clauses) s; bits = bs ++ rest .bits; vars = rest .vars }
 
 abbrev pub state-bits : AdderState → List ℕ
-state-bits s = map num (take (s .len) (s .bits))
+state-bits s = first-lits (s .bits) (s .len)
 
 abbrev pub outcome : List ℕ → List ℕ → AdderState → Outcome
 outcome d e s = record { stores = after d e (s .used); bits = state-bits s; vars = s .vars }
 
 -- The columns as the code holds them ---------------------------------------------------------------------------------
 
+-- the literals of column i
+abbrev pub own-at : List (List Lit) → List ℕ → ℕ → List ℕ
+own-at cols counts i = first-lits (getD cols i []) (getD counts i 0)
+
 -- w columns from the i-th on, with the bits of k
 abbrev pub input-columns : ℕ → ℕ → List (List Lit) → List ℕ → ℕ → List AdderColumn
 input-columns zero i cols counts k = []
 input-columns (suc w) i cols counts k =
-    record { own = map num (take (getD counts i 0) (getD cols i [])); constant = k % 2 } ∷ input-columns w (i + 1) cols counts (k / 2)
+    record { own = own-at cols counts i; constant = k % 2 } ∷ input-columns w (i + 1) cols counts (k / 2)
 
 -- every count is a number below 2 ^ 31
 abbrev pub CountsLow : List ℕ → Type 0
@@ -95,7 +100,7 @@ pub record ColumnAdded (d e : List ℕ) (c : ColumnInput) (s : AdderState) (d′
 
 -- the result literals that are given
 abbrev pub given-lits : AdderInput → List Lit → List ℕ
-given-lits p given = map num (take (p .given) given)
+given-lits p given = first-lits given (p .given)
 
 -- what the columns ask
 pub record AdderFits (cols : List (List Lit)) (counts : List ℕ) (given : List Lit) (p : AdderInput) : Type 0 where

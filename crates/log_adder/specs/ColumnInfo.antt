@@ -3,6 +3,7 @@ use Prim.Native.Nat.{ℕ, _+_, _*_, _^_, _≤_, _<_}
 use mathlib.Core.Bool.{Bool, not}
 use mathlib.Core.List.{List, [], _∷_, _++_, map}
 use lib.ListN.{take, getD}
+use Rattle.sat.specs.LitArray.{first-lits, lit}
 use Rattle.sat.specs.declared.Lit.{Lit}
 use Rattle.mixed.specs.declared.LinearInfo.{LinearInfo}
 use Rattle.log_adder.specs.declared.VarRange.{VarRange}
@@ -10,12 +11,6 @@ use Rattle.log_adder.specs.declared.ColumnInfo.{ColumnInfo}
 use Rattle.sat.specs.Clause.{Clauses}
 use Rattle.log_adder.specs.Column.{column}
 use Rattle.sat.specs.Fresh.{fresh}
-
-abbrev pub num : Lit → ℕ
-num l = l .0
-
-abbrev pub lit : ℕ → Lit
-lit x = record { 0 = x }
 
 -- every literal of the array is a number below 2 ^ 31
 abbrev pub AllLow : List Lit → Type 0
@@ -26,7 +21,7 @@ abbrev pub range-lits : VarRange → List ℕ
 range-lits s = fresh (s .count) (s .first .0)
 
 abbrev pub own-lits : ColumnInfo → List ℕ
-own-lits c = map num (take (c .height) (c .own))
+own-lits c = first-lits (c .own) (c .height)
 
 -- the terms of a column as the code holds them
 abbrev pub lit-info : Bool → Lit → LinearInfo

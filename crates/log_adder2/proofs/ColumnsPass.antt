@@ -22,7 +22,8 @@ use Rattle.sat.specs.Fresh.{fresh}
 use Rattle.log_adder.specs.ColumnInfo.{range-lits}
 use Rattle.sat.proofs.Fresh.{length-fresh}
 use Rattle.log_adder.specs.Adder2.{Adder2Output, adder2-clauses, eq-column, ordering, prepend, returned-set}
-use Rattle.log_adder2.specs.EqState.{Carries, CarriesOrdered, EqAdded, EqCounted, EqFits, EqInBounds, Wrote, carries, carries-from, carries-then, columns-clauses, eq-carry-count, eq-output, next-state, no-vars, output-at, own-at, target-bit}
+use Rattle.log_adder2.specs.EqState.{Carries, CarriesOrdered, EqAdded, EqCounted, EqFits, EqInBounds, Wrote, carries, carries-from, carries-then, columns-clauses, eq-carry-count, eq-output, next-state, no-vars, output-at, target-bit}
+use Rattle.log_adder.specs.AdderState.{own-at}
 use Rattle.log_adder2.proofs.EqHeights.{column-fits, fits-step, tall-from}
 use Rattle.log_adder2.proofs.OrderingPass.{start-state, carries-dead, carries-step}
 

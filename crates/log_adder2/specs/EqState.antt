@@ -2,9 +2,9 @@
 use Prim.Native.Nat.{ℕ, zero, suc, _+_, _-_, _*_, _/_, _%_, _^_, _≤_, _<_}
 use mathlib.Core.Path.{_≡_}
 use mathlib.Core.Bool.{Bool, true, false, cond}
-use mathlib.Core.List.{List, [], _∷_, _++_, map}
+use mathlib.Core.List.{List, [], _∷_, _++_}
 use mathlib.Core.Option.{Option, none, some}
-use lib.ListN.{take, getD, length}
+use lib.ListN.{getD, length}
 use Rattle.sat.specs.Size.{entries}
 use Rattle.sat.specs.declared.Lit.{Lit}
 use Rattle.clause_set.specs.declared.Counts.{Counts}
@@ -16,7 +16,8 @@ use Rattle.log_adder2.specs.declared.EqInput.{EqInput}
 use Rattle.log_adder2.specs.declared.EqState.{EqState}
 use Rattle.sat.specs.Clause.{Clauses}
 use Rattle.clause_set.specs.Stores.{add-clauses, after}
-use Rattle.log_adder.specs.ColumnInfo.{AllLow, num, own-lits, range-lits}
+use Rattle.log_adder.specs.AdderState.{own-at}
+use Rattle.log_adder.specs.ColumnInfo.{AllLow, own-lits, range-lits}
 use Rattle.sat.specs.Fresh.{fresh}
 use Rattle.log_adder.specs.Adder2.{Adder2Output, EqColumn, LastColumn, NewCarry, adder2, adder2-clauses, column-answer, eq-column, ordering}
 
@@ -30,9 +31,6 @@ carry-of (Carry first n) = some record { lits = fresh n (first .0); vars = first
 carry-of Dead = none
 
 -- The columns of a goal: with x they are to add up to y --------------------------------------------------------------
-
-abbrev pub own-at : List (List Lit) → List ℕ → ℕ → List ℕ
-own-at cols counts i = map num (take (getD counts i 0) (getD cols i []))
 
 abbrev pub columns-at : ℕ → ℕ → List (List Lit) → List ℕ → ℕ → ℕ → List EqColumn
 columns-at zero i cols counts x y = []

@@ -5,7 +5,7 @@ ghost use mathlib.Core.List.{[], _∷_, map};
 ghost use lib.ListN.{take};
 ghost use Prim.Native.Nat.{_+_, _-_, _*_, _/_, _^_, _≤_, _<_};
 ghost use Rattle.sat.specs.Fresh.{fresh};
-ghost use Rattle.clause_set.specs.Clause.{num};
+ghost use Rattle.sat.specs.LitArray.{first-lits, num};
 ghost use Rattle.clause_set.specs.Stores.{add-clauses, after, stores};
 ghost use Rattle.log_adder.specs.AdderState.{CountsLow};
 ghost use Rattle.log_adder.specs.Adder2.{column-answer, eq-column, ordering};
@@ -252,7 +252,7 @@ fn add_next_column(
 ) -> EqState
     requires { ⌜ EqColumnReady own height s ⌝ }
     requires { ⌜ target-bit s ≤ height + s .carry .count ⌝ }
-    ensures { λ r. ⌜ (r ≡ next-state height s (r .used)) × Wrote (now (lits .entry)) (now (ends .entry)) (s .used) (eq-column (map num (take height own)) (range-lits (s .carry)) 0 (fresh (eq-carry-count height s) (s .vars)) (target-bit s)) (now (lits .exit)) (now (ends .exit)) (r .used) ⌝ }
+    ensures { λ r. ⌜ (r ≡ next-state height s (r .used)) × Wrote (now (lits .entry)) (now (ends .entry)) (s .used) (eq-column (first-lits own height) (range-lits (s .carry)) 0 (fresh (eq-carry-count height s) (s .vars)) (target-bit s)) (now (lits .exit)) (now (ends .exit)) (r .used) ⌝ }
 {
     let carry = s.carry;
     let odd = (s.x + s.y) % 2;
@@ -289,7 +289,7 @@ fn add_last_column(
     s: EqState,
 ) -> Counts
     requires { ⌜ EqColumnReady own height s ⌝ }
-    ensures { λ r. ⌜ Wrote (now (lits .entry)) (now (ends .entry)) (s .used) (eq-column (map num (take height own)) (range-lits (s .carry)) (s .x) [] (s .y)) (now (lits .exit)) (now (ends .exit)) r ⌝ }
+    ensures { λ r. ⌜ Wrote (now (lits .entry)) (now (ends .entry)) (s .used) (eq-column (first-lits own height) (range-lits (s .carry)) (s .x) [] (s .y)) (now (lits .exit)) (now (ends .exit)) r ⌝ }
 {
     let carry = s.carry;
     let info = ColumnInfo {

@@ -13,9 +13,9 @@ use Rattle.arithmetic.specs.Bits.{bit-length-within}
 use Rattle.sat.specs.declared.Lit.{Lit}
 use Rattle.sat.specs.Lit.{neg}
 use Rattle.log_adder.specs.Adder.{AdderColumn}
-use Rattle.log_adder.specs.ColumnInfo.{lit, num}
+use Rattle.sat.specs.LitArray.{first-lits, lit, num}
 use Rattle.log_adder.specs.Gather.{Grid, with-constant}
-use Rattle.log_gather.specs.Arrays.{grid-columns, lits-of}
+use Rattle.log_gather.specs.Arrays.{grid-columns}
 
 grid-shift : (w i : ℕ) (c : List ℕ) (g : Grid) (k : ℕ) → grid-columns w (suc i) (c ∷ g) k ≡ grid-columns w i g k
 grid-shift zero i c g k = refl
@@ -65,9 +65,9 @@ constant-grid f (c ∷ g) k h =
 -- Literals negated ---------------------------------------------------------------------------------------------------
 
 pub negate-more : (out lits : List Lit) (i : ℕ) (l : Lit) → i < length out → i < length lits → l .0 ≡ neg (getD lits i (lit 0) .0)
-    → lits-of out i ≡ map neg (lits-of lits i) → lits-of (set out i l) (i + 1) ≡ map neg (lits-of lits (i + 1))
+    → first-lits out i ≡ map neg (first-lits lits i) → first-lits (set out i l) (i + 1) ≡ map neg (first-lits lits (i + 1))
 negate-more out lits i l h k e q =
-    rw (add-one i, take-suc-set out i l h, take-suc lits i (lit 0) k, map-append num (take i out) (l ∷ []), map-append num (take i lits) (getD lits i (lit 0) ∷ []), map-append neg (lits-of lits i) (getD lits i (lit 0) .0 ∷ []), q, e)
+    rw (add-one i, take-suc-set out i l h, take-suc lits i (lit 0) k, map-append num (take i out) (l ∷ []), map-append num (take i lits) (getD lits i (lit 0) ∷ []), map-append neg (first-lits lits i) (getD lits i (lit 0) .0 ∷ []), q, e)
 
 pub neg-low : (l : ℕ) → l < 2147483647 → neg l < 2147483648
 unfolding neg

@@ -12,10 +12,11 @@ use native.Mathlib.Omega.{arith}
 use lib.ListN.{length, getD, set, take, replicate, length-set, length-append, length-map, length-take}
 use lib.Seq.{getD-set-same, getD-set-other, take-suc, take-suc-set}
 use Rattle.sat.specs.declared.Lit.{Lit}
-use Rattle.log_adder.specs.ColumnInfo.{AllLow, lit, num}
+use Rattle.log_adder.specs.ColumnInfo.{AllLow}
+use Rattle.sat.specs.LitArray.{first-lits, lit, num}
 use Rattle.log_adder.proofs.ColumnTerms.{every-set}
 use Rattle.log_adder.specs.Gather.{Grid, push-scaled, push-value}
-use Rattle.log_gather.specs.Arrays.{Arrays, Few, Holds, Pushed, lits-of}
+use Rattle.log_gather.specs.Arrays.{Arrays, Few, Holds, Pushed}
 
 -- One literal --------------------------------------------------------------------------------------------------------
 
@@ -166,11 +167,11 @@ pushed-then {j} {k} f f₁ f₂ e a b =
     }
 
 -- one literal more
-pub push-more : (o : ℕ) (lits : List Lit) (j : ℕ) → j < length lits → (g : Grid) → push-value o (lits-of lits (j + 1)) g ≡ push-value (o + j) (getD lits j (lit 0) .0 ∷ []) (push-value o (lits-of lits j) g)
+pub push-more : (o : ℕ) (lits : List Lit) (j : ℕ) → j < length lits → (g : Grid) → push-value o (first-lits lits (j + 1)) g ≡ push-value (o + j) (getD lits j (lit 0) .0 ∷ []) (push-value o (first-lits lits j) g)
 push-more o lits j h g =
-    let e : lits-of lits (j + 1) ≡ lits-of lits j ++ (getD lits j (lit 0) .0 ∷ []) = rw (add-one j, take-suc lits j (lit 0) h, map-append num (take j lits) (getD lits j (lit 0) ∷ [])) in
-    let n : length (lits-of lits j) ≡ j = rw (length-map, length-take) (omega arith) in
-    ap (λ (x : List ℕ). push-value o x g) e ∙ push-last o (lits-of lits j) (getD lits j (lit 0) .0) g ∙ ap (λ (x : ℕ). push-value (o + x) (getD lits j (lit 0) .0 ∷ []) (push-value o (lits-of lits j) g)) n
+    let e : first-lits lits (j + 1) ≡ first-lits lits j ++ (getD lits j (lit 0) .0 ∷ []) = rw (add-one j, take-suc lits j (lit 0) h, map-append num (take j lits) (getD lits j (lit 0) ∷ [])) in
+    let n : length (first-lits lits j) ≡ j = rw (length-map, length-take) (omega arith) in
+    ap (λ (x : List ℕ). push-value o x g) e ∙ push-last o (first-lits lits j) (getD lits j (lit 0) .0) g ∙ ap (λ (x : ℕ). push-value (o + x) (getD lits j (lit 0) .0 ∷ []) (push-value o (first-lits lits j) g)) n
 
 -- one bit of the coefficient, and those left
 pub scaled-step : (f k o : ℕ) (ls : List ℕ) (g : Grid) → 0 < f → push-scaled f k o ls g ≡ push-scaled (f - 1) (k / 2) (o + 1) ls (cond (eqb (k % 2) 1) (push-value o ls g) g)

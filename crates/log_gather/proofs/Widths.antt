@@ -9,7 +9,7 @@ use native.Mathlib.Omega.{arith}
 use lib.Dec.{eqb}
 use lib.ListN.{length, getD, take}
 use Rattle.sat.specs.declared.Lit.{Lit}
-use Rattle.log_adder.specs.ColumnInfo.{num}
+use Rattle.sat.specs.LitArray.{num}
 use Rattle.log_adder.specs.AdderState.{input-columns}
 use Rattle.log_adder.specs.Gather.{Grid, push-scaled, push-value}
 use Rattle.log_adder.specs.Size.{input-shapes, reached, too-tall}

@@ -3,18 +3,17 @@
 use Prim.Native.Nat.{ℕ, zero, suc, max, _+_, _/_, _%_, _≤_, _<_}
 use mathlib.Core.Path.{_≡_}
 use mathlib.Core.Bool.{cond}
-use mathlib.Core.List.{List, [], _∷_, map}
+use mathlib.Core.List.{List, [], _∷_}
 use lib.Dec.{eqb}
-use lib.ListN.{length, getD, take}
+use lib.ListN.{length, getD}
 use Rattle.sat.specs.declared.Lit.{Lit}
 use Rattle.log_adder.specs.Adder.{AdderColumn}
 use Rattle.log_adder.specs.Gather.{Grid}
-use Rattle.log_adder.specs.ColumnInfo.{AllLow, lit, num}
+use Rattle.log_adder.specs.AdderState.{own-at}
+use Rattle.log_adder.specs.ColumnInfo.{AllLow}
+use Rattle.sat.specs.LitArray.{lit}
 
 -- The arrays ---------------------------------------------------------------------------------------------------------
-
-abbrev pub lits-of : List Lit → ℕ → List ℕ
-lits-of lits n = map num (take n lits)
 
 -- the arrays as such: 32 columns of 12 places, small literals
 pub record Arrays (cols : List (List Lit)) (counts : List ℕ) : Type 0 where
@@ -30,7 +29,7 @@ Few m counts = (i : ℕ) → getD counts i 0 ≤ m
 -- they hold these columns
 pub record Holds (cols : List (List Lit)) (counts : List ℕ) (g : Grid) : Type 0 where
   pub count : (i : ℕ) → i < 32 → getD counts i 0 ≡ length (getD g i [])
-  pub own : (i : ℕ) → i < 32 → length (getD g i []) ≤ 12 → map num (take (getD counts i 0) (getD cols i [])) ≡ getD g i []
+  pub own : (i : ℕ) → i < 32 → length (getD g i []) ≤ 12 → own-at cols counts i ≡ getD g i []
 
 -- whatever the arrays held, they hold it now with the literals pushed; no count grew by more than k
 pub record Pushed (k : ℕ) (cols : List (List Lit)) (counts : List ℕ) (f : Grid → Grid) (cols′ : List (List Lit)) (counts′ : List ℕ) : Type 0 where

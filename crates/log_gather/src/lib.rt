@@ -9,7 +9,8 @@ ghost use Rattle.arithmetic.specs.Bits.{shl};
 ghost use Rattle.sat.specs.Lit.{neg};
 ghost use Rattle.log_adder.specs.ColumnInfo.{AllLow};
 ghost use Rattle.log_adder.specs.Gather.{push-scaled, push-value};
-ghost use Rattle.log_gather.specs.Arrays.{AllSmall, Arrays, Few, Holds, Pushed, lits-of, widths};
+ghost use Rattle.log_gather.specs.Arrays.{AllSmall, Arrays, Few, Holds, Pushed, widths};
+ghost use Rattle.sat.specs.LitArray.{first-lits};
 use sat::Lit;
 
 // Literal l at the end of column w.
@@ -38,7 +39,7 @@ fn push_value(
 ) -> [[Lit; 12]; 32]
     requires { ⌜ (o + n ≤ 32) × AllLow lits ⌝ }
     requires { ⌜ Arrays cols (now counts) × Few 2147482000 (now counts) ⌝ }
-    ensures { λ r. ⌜ Pushed n cols (now (counts .entry)) (push-value o (lits-of lits n)) r (now (counts .exit)) ⌝ }
+    ensures { λ r. ⌜ Pushed n cols (now (counts .entry)) (push-value o (first-lits lits n)) r (now (counts .exit)) ⌝ }
 {
     let mut out = cols;
     let mut j: usize = 0;
@@ -62,7 +63,7 @@ fn push_bit(
 ) -> [[Lit; 12]; 32]
     requires { ⌜ (shl (o + n) k < 2 ^ 32) × AllLow lits ⌝ }
     requires { ⌜ Arrays cols (now counts) × Few 2147482000 (now counts) ⌝ }
-    ensures { λ r. ⌜ Pushed 32 cols (now (counts .entry)) (λ g. cond (eqb (k % 2) 1) (push-value o (lits-of lits n) g) g) r (now (counts .exit)) ⌝ }
+    ensures { λ r. ⌜ Pushed 32 cols (now (counts .entry)) (λ g. cond (eqb (k % 2) 1) (push-value o (first-lits lits n) g) g) r (now (counts .exit)) ⌝ }
 {
     if k % 2 == 1 {
         return push_value(cols, counts, lits, n, o);
@@ -82,7 +83,7 @@ pub fn push_scaled(
 ) -> [[Lit; 12]; 32]
     requires { ⌜ (steps ≤ 12) × (shl n coef < 2 ^ 32) × AllLow lits ⌝ }
     requires { ⌜ Arrays cols (now counts) × Few 2147480000 (now counts) ⌝ }
-    ensures { λ r. ⌜ Pushed 384 cols (now (counts .entry)) (push-scaled steps coef 0 (lits-of lits n)) r (now (counts .exit)) ⌝ }
+    ensures { λ r. ⌜ Pushed 384 cols (now (counts .entry)) (push-scaled steps coef 0 (first-lits lits n)) r (now (counts .exit)) ⌝ }
 {
     let mut out = cols;
     let mut k = coef;
@@ -141,7 +142,7 @@ pub fn width_after(width: usize, n: usize, coef: u32, steps: usize) -> usize
 // The first n literals negated.
 pub fn negate_all(lits: [Lit; 32], n: usize) -> [Lit; 32]
     requires { ⌜ (n ≤ 32) × AllSmall lits ⌝ }
-    ensures { λ r. ⌜ (lits-of r n ≡ map neg (lits-of lits n)) × AllLow r ⌝ }
+    ensures { λ r. ⌜ (first-lits r n ≡ map neg (first-lits lits n)) × AllLow r ⌝ }
 {
     let mut out = [Lit(0); 32];
     let mut i: usize = 0;

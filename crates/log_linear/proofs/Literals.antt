@@ -8,8 +8,7 @@ use native.Mathlib.Omega.{arith}
 use lib.ListN.{length, take, drop, getD, length-map, drop-of-length-le}
 use lib.Seq.{length-take-le}
 use Rattle.sat.specs.declared.Lit.{Lit}
-use Rattle.log_adder.specs.ColumnInfo.{lit, num}
-use Rattle.log_gather.specs.Arrays.{lits-of}
+use Rattle.sat.specs.LitArray.{first-lits, lit, num}
 
 module _ {A B : Type 0} (f : A → B) (d : A) where
   pub first-long : (xs : List A) (n : ℕ) → n ≤ length xs → length (map f (take n xs)) ≡ n
@@ -27,13 +26,13 @@ module _ {A B : Type 0} (f : A → B) (d : A) where
   pub first-none : (xs : List A) (n i : ℕ) → n ≤ length xs → n ≤ i → drop i (map f (take n xs)) ≡ []
   first-none xs n i h k = drop-of-length-le (map f (take n xs)) {i = i} (omega (arith, first-long xs n h))
 
-pub lits-long : (lits : List Lit) (n : ℕ) → n ≤ length lits → length (lits-of lits n) ≡ n
+pub lits-long : (lits : List Lit) (n : ℕ) → n ≤ length lits → length (first-lits lits n) ≡ n
 lits-long lits n h = first-long num (lit 0) lits n h
 
 -- the literal at a place, and those after it
-pub lits-next : (lits : List Lit) (n i : ℕ) → n ≤ length lits → i < n → drop i (lits-of lits n) ≡ getD lits i (lit 0) .0 ∷ drop (i + 1) (lits-of lits n)
+pub lits-next : (lits : List Lit) (n i : ℕ) → n ≤ length lits → i < n → drop i (first-lits lits n) ≡ getD lits i (lit 0) .0 ∷ drop (i + 1) (first-lits lits n)
 lits-next lits n i h k = first-next num (lit 0) lits n i h k
 
 -- past the last
-pub lits-none : (lits : List Lit) (n i : ℕ) → n ≤ length lits → n ≤ i → drop i (lits-of lits n) ≡ []
+pub lits-none : (lits : List Lit) (n i : ℕ) → n ≤ length lits → n ≤ i → drop i (first-lits lits n) ≡ []
 lits-none lits n i h k = first-none num (lit 0) lits n i h k

@@ -1,12 +1,12 @@
 -- What the functions that add a rule's clauses leave.
 use Prim.Native.Nat.{_+_, ℕ}
-use lib.ListN.{length, take}
-use mathlib.Core.List.{List, map}
+use lib.ListN.{length}
+use mathlib.Core.List.{List}
 use mathlib.Core.Path.{_≡_}
 use Rattle.sat.specs.Clause.{Clauses}
 use Rattle.sat.specs.Encoded.{EncodedRule}
 use Rattle.sat.specs.Size.{entries}
-use Rattle.clause_set.specs.Clause.{num}
+use Rattle.sat.specs.LitArray.{first-lits}
 use Rattle.clause_set.specs.Stores.{Stores, add-clauses, after}
 use Rattle.clause_set.specs.declared.Counts.{Counts}
 use Rattle.log_linear.specs.declared.Bits.{Bits}
@@ -14,7 +14,7 @@ use Rattle.log_linear.specs.declared.RuleCounts.{RuleCounts}
 
 -- the literals of a sum's bits, the lowest first
 abbrev pub bits-of : Bits → List ℕ
-bits-of b = map num (take (b .len) (b .lits))
+bits-of b = first-lits (b .lits) (b .len)
 
 -- the clauses cs are added to the stores d and e at the counts a
 pub record Added (d e : List ℕ) (a : Counts) (cs : Clauses) (d′ e′ : List ℕ) (r : Counts) : Type 0 where

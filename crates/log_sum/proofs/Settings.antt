@@ -13,8 +13,7 @@ use lib.Seq.{getD-set-same, getD-set-other, take-suc, take-suc-set}
 use lib.Signed.{ltZ}
 use Rattle.arithmetic.specs.Integers.{down, up}
 use Rattle.sat.specs.declared.Lit.{Lit}
-use Rattle.log_adder.specs.ColumnInfo.{lit, num}
-use Rattle.log_gather.specs.Arrays.{lits-of}
+use Rattle.sat.specs.LitArray.{first-lits, lit, num}
 use Rattle.norm_csp.specs.Rules.{CmpOp, LinearTerm, terms-of}
 use Rattle.log_var.specs.LogEncoding.{LogEncoding}
 use Rattle.log_var.specs.declared.LogEncoding.{LogEncoding as Encoding}
@@ -36,8 +35,8 @@ weighted-is (pos k) ls = let z : 0 ≤ k = omega arith in rw (le-ltb k 0 z, add-
 weighted-is (negsuc k) ls = rw (zero-add (suc k))
 
 -- one literal more
-pub lits-more : (out lits : List Lit) (i : ℕ) → i < length out → i < length lits → lits-of out i ≡ lits-of lits i
-    → lits-of (set out i (getD lits i (lit 0))) (i + 1) ≡ lits-of lits (i + 1)
+pub lits-more : (out lits : List Lit) (i : ℕ) → i < length out → i < length lits → first-lits out i ≡ first-lits lits i
+    → first-lits (set out i (getD lits i (lit 0))) (i + 1) ≡ first-lits lits (i + 1)
 lits-more out lits i h k e =
     let l = getD lits i (lit 0) in
     rw (add-one i, take-suc-set out i l h, take-suc lits i (lit 0) k, map-append num (take i out) (l ∷ []), map-append num (take i lits) (l ∷ []), e)

@@ -14,7 +14,8 @@ use Rattle.clause_set.specs.declared.Counts.{Counts}
 use Rattle.clause_set.proofs.Adding.{count-after, used-after}
 use Rattle.log_adder.specs.Adder.{AdderColumn, adder}
 use Rattle.log_adder.specs.AdderState.{AdderAdded, AdderFits, Outcome, input-columns, state-bits, then}
-use Rattle.log_adder.specs.ColumnInfo.{AllLow, num}
+use Rattle.log_adder.specs.ColumnInfo.{AllLow}
+use Rattle.sat.specs.LitArray.{num}
 use Rattle.log_adder.specs.Gather.{Grid, with-constant}
 use Rattle.log_adder.specs.Size.{ColumnShape, column-shape, input-shapes, reached, too-tall}
 use Rattle.log_adder.specs.declared.AdderState.{AdderState}

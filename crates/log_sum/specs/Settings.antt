@@ -5,7 +5,8 @@ use lib.ListN.{getD, length}
 use mathlib.Core.List.{List}
 use mathlib.Core.Path.{_≡_}
 use Rattle.arithmetic.specs.Integers.{down, up}
-use Rattle.log_var.specs.Record.{int-map-of, lit, record-at}
+use Rattle.log_var.specs.Record.{int-map-of, record-at}
+use Rattle.sat.specs.LitArray.{lit}
 use Rattle.log_var.specs.Size.{SettingShape, setting-shape}
 use Rattle.log_var.specs.declared.LogEncoding.{LogEncoding as Encoding}
 use Rattle.sat.specs.declared.Lit.{Lit}

@@ -12,7 +12,8 @@ ghost use Rattle.clause_set.specs.Stores.{after};
 ghost use Rattle.norm_csp.specs.Rules.{eq, op-of, terms-of};
 ghost use Rattle.log_adder.specs.Adder2.{eq-adder};
 ghost use Rattle.log_adder.specs.Size.{too-tall};
-ghost use Rattle.log_gather.specs.Arrays.{AllSmall, lits-of};
+ghost use Rattle.log_gather.specs.Arrays.{AllSmall};
+ghost use Rattle.sat.specs.LitArray.{first-lits};
 ghost use Rattle.log_linear.specs.Added.{add-rule, rule-outcome};
 ghost use Rattle.log_linear.specs.EncodeLinearLog.{encode-linear-log, encode-weighted, eq-rule, offset-constant, weighted, weighted-terms};
 ghost use Rattle.log_linear.specs.Linear.{gather-sign, linear-eq, linear-ge, linear-ne, negated-constant, sign-adder};
@@ -346,7 +347,7 @@ fn magnitude(z: i32) -> u32
 // Up to twelve literals in the places of a term.
 fn term_lits(lits: [Lit; 12], n: usize) -> [Lit; 32]
     requires { ⌜ (n ≤ 12) × FirstSmall n lits ⌝ }
-    ensures { λ r. ⌜ (lits-of r n ≡ lits-of lits n) × (length r ≡ 32) × AllSmall r ⌝ }
+    ensures { λ r. ⌜ (first-lits r n ≡ first-lits lits n) × (length r ≡ 32) × AllSmall r ⌝ }
 {
     let mut out = [Lit(0); 32];
     let mut i: usize = 0;

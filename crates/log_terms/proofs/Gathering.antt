@@ -11,7 +11,8 @@ use Rattle.arithmetic.proofs.Bits.{shl-mul}
 use Rattle.sat.specs.declared.Lit.{Lit}
 use Rattle.log_adder.specs.ColumnInfo.{AllLow}
 use Rattle.log_adder.specs.Gather.{Grid, push-scaled}
-use Rattle.log_gather.specs.Arrays.{AllSmall, Arrays, Few, Holds, Pushed, lits-of, widths}
+use Rattle.log_gather.specs.Arrays.{AllSmall, Arrays, Few, Holds, Pushed, widths}
+use Rattle.sat.specs.LitArray.{first-lits}
 use Rattle.log_gather.proofs.Pushing.{pushed-start}
 use Rattle.log_gather.proofs.Steps.{shl-more, steps-enough, widths-enough, widths-most}
 use Rattle.log_gather.proofs.Widths.{scaled-length}
@@ -109,7 +110,7 @@ fit-twelve {steps} f =
     }
 
 -- how many literals a term has
-pub term-long : {steps : ℕ} (t : WeightedLits) → TermFits steps t → length (lits-of (t .lits) (t .len)) ≡ t .len
+pub term-long : {steps : ℕ} (t : WeightedLits) → TermFits steps t → length (first-lits (t .lits) (t .len)) ≡ t .len
 term-long t h = lits-long (t .lits) (t .len) (omega (arith, h .len, h .long))
 
 module _ {steps : ℕ} (t : WeightedLits) (h : TermFits steps t) (e : steps ≤ 12) where

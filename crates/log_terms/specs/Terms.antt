@@ -5,7 +5,8 @@ use mathlib.Core.Bool.{false}
 use mathlib.Core.List.{List, [], map}
 use mathlib.Core.Path.{_≡_}
 use Rattle.arithmetic.specs.Bits.{shl}
-use Rattle.log_gather.specs.Arrays.{AllSmall, lits-of, widths}
+use Rattle.log_gather.specs.Arrays.{AllSmall, widths}
+use Rattle.sat.specs.LitArray.{first-lits}
 use Rattle.log_linear.specs.Linear.{Weighted}
 use Rattle.log_linear.specs.Size.{WeightedShape, shape-of}
 use Rattle.log_terms.specs.declared.Weighted.{Weighted as WeightedLits}
@@ -16,7 +17,7 @@ no-term = record { negative = false; coef = 0; lits = []; len = 0 }
 
 -- one term
 abbrev pub weighted-of : WeightedLits → Weighted
-weighted-of t = record { negative = t .negative; coef = t .coef; lits = lits-of (t .lits) (t .len) }
+weighted-of t = record { negative = t .negative; coef = t .coef; lits = first-lits (t .lits) (t .len) }
 
 -- the terms in use
 abbrev pub weighted-all : List WeightedLits → ℕ → List Weighted

@@ -7,7 +7,8 @@ ghost use Prim.Native.Nat.{_-_, _*_, _≤_, _<_};
 ghost use lib.ListN.{length, replicate};
 ghost use Rattle.arithmetic.specs.Bits.{shl};
 ghost use Rattle.log_adder.specs.Gather.{push-scaled};
-ghost use Rattle.log_gather.specs.Arrays.{Arrays, Few, Pushed, lits-of, widths};
+ghost use Rattle.log_gather.specs.Arrays.{Arrays, Few, Pushed, widths};
+ghost use Rattle.sat.specs.LitArray.{first-lits};
 ghost use Rattle.log_linear.specs.Linear.{gather, gather-sign, negated-constant, positive-lits, push-scaled-some};
 ghost use Rattle.log_terms.specs.Gathered.{Gathered};
 ghost use Rattle.log_terms.specs.Terms.{TermFits, TermsFit, some-width, weighted-all, weighted-of};
@@ -35,7 +36,7 @@ fn push_term(
 ) -> [[Lit; 12]; 32]
     requires { ⌜ (steps ≤ 12) × TermFits steps t ⌝ }
     requires { ⌜ Arrays cols (now counts) × Few 2147480000 (now counts) ⌝ }
-    ensures { λ r. ⌜ Pushed 384 cols (now (counts .entry)) (λ g. cond (Bool·beq sign (t .negative)) (push-scaled 12 (t .coef) 0 (lits-of (t .lits) (t .len)) g) g) r (now (counts .exit)) ⌝ }
+    ensures { λ r. ⌜ Pushed 384 cols (now (counts .entry)) (λ g. cond (Bool·beq sign (t .negative)) (push-scaled 12 (t .coef) 0 (first-lits (t .lits) (t .len)) g) g) r (now (counts .exit)) ⌝ }
 {
     if sign == t.negative {
         let lits = t.lits;

@@ -19,7 +19,8 @@ use Rattle.clause_set.proofs.Adding.{Going, going-fits, going-turn}
 use Rattle.log_var.specs.Binary.{binary-bit, binary-bits}
 use Rattle.log_var.specs.Parts.{BitAdded, BitsAdded}
 use Rattle.log_var.specs.Domain.{against}
-use Rattle.log_var.specs.Record.{lit, pad}
+use Rattle.log_var.specs.Record.{pad}
+use Rattle.sat.specs.LitArray.{lit}
 use Rattle.log_var.specs.declared.EncodedBit.{EncodedBit}
 use Rattle.log_var.specs.declared.EncodedBits.{EncodedBits as Bits}
 use Rattle.log_var.proofs.Steps.{going-end, going-restart}

@@ -1,18 +1,15 @@
 -- The setting record as the code holds it, and the value that bytes read it as.
 use Prim.Native.Nat.{_*_, _+_, _-_, ℕ}
 use lib.IntN.{pos, ℤ}
-use lib.ListN.{getD, length, replicate, take}
+use lib.ListN.{getD, length, replicate}
 use mathlib.Core.Bool.{cond}
 use mathlib.Core.List.{List, [], _++_, _∷_, map}
 use Rattle.arithmetic.specs.Offset.{value}
 use Rattle.sat.specs.declared.Lit.{Lit}
 use Rattle.clause_set.specs.Bytes.{lit-holds}
-use Rattle.clause_set.specs.Clause.{num}
+use Rattle.sat.specs.LitArray.{first-lits, lit}
 use Rattle.log_var.specs.LogEncoding.{LogEncoding}
 use Rattle.log_var.specs.declared.LogEncoding.{LogEncoding as Encoding}
-
-abbrev pub lit : ℕ → Lit
-lit n = record { 0 = n }
 
 -- literals in the twelve places of a record; unused places are 0
 unfoldable pub pad : List ℕ → List Lit
@@ -24,7 +21,7 @@ record-of e = record { lits = pad (e .lits); len = length (e .lits); low = e .lo
 
 -- the literals in use
 abbrev pub lits-of : Encoding → List ℕ
-lits-of e = map num (take (e .len) (e .lits))
+lits-of e = first-lits (e .lits) (e .len)
 
 -- the setting that a record is
 abbrev pub encoding-of : Encoding → LogEncoding

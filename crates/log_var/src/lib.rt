@@ -9,7 +9,7 @@ ghost use lib.Signed.{_<ℤ_, _≤ℤ_};
 ghost use Rattle.arithmetic.specs.Integers.{down, up};
 ghost use Rattle.arithmetic.specs.Offset.{code};
 ghost use Rattle.sat.specs.Fresh.{fresh};
-ghost use Rattle.clause_set.specs.Clause.{num};
+ghost use Rattle.sat.specs.LitArray.{first-lits, num};
 ghost use Rattle.clause_set.specs.Stores.{Fits, add-clauses, after};
 ghost use Rattle.norm_csp.specs.Domain.{binary, list, range};
 ghost use Rattle.log_var.specs.Binary.{binary-bits};
@@ -402,7 +402,7 @@ pub fn encode_binary(
 // The number that the first n literals spell under an assignment of bytes.
 fn read_code(lits: [Lit; 12], n: u32, assignment: &[u8]) -> u32
     requires { ⌜ n ≤ 12 ⌝ }
-    ensures { λ r. ⌜ (r ≡ code-of-bytes (now (assignment .entry)) (map num (take n lits))) × (r < 4096) ⌝ }
+    ensures { λ r. ⌜ (r ≡ code-of-bytes (now (assignment .entry)) (first-lits lits n)) × (r < 4096) ⌝ }
 {
     let mut k: u32 = 0;
     let mut i: u32 = n;

@@ -6,3 +6,4 @@ pub mod Number
 pub mod Encodes
 pub mod Encoded
 pub mod Size
+pub mod LitArray

@@ -6,7 +6,8 @@ use Prim.Native.Nat.{ℕ, _+_, _-_, _≤_}
 use native.Mathlib.Omega.{arith}
 use lib.ListN.{length, take, getD, set, length-map}
 use lib.Seq.{sets}
-use Rattle.clause_set.specs.Clause.{clause-lits, num}
+use Rattle.clause_set.specs.Clause.{clause-lits}
+use Rattle.sat.specs.LitArray.{num}
 use Rattle.clause_set.specs.Stores.{after}
 use Rattle.clause_set.proofs.Adding.{clause-size, lits-more, one-added}
 use Rattle.clause_set.proofs.push.Statement.{statement}

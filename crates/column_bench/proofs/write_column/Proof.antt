@@ -1,7 +1,6 @@
 -- `column_bench::write_column` meets its contract.
 use borrow.Author.Needs.{needs}
 use mathlib.Core.Path.{ap, _∙_}
-use Prim.Native.Nat.{_^_}
 use lib.Dec.{lit<}
 use Rattle.clause_set.specs.Stores.{Stores, add-clauses, stores}
 use Rattle.log_adder.specs.declared.ColumnInfo.{ColumnInfo}

@@ -6,7 +6,8 @@ use lib.ListN.{length, length-set}
 use lib.Dec.{lit<}
 use borrow.Author.Needs.{needs}
 use Rattle.sat.specs.declared.Lit.{Lit}
-use Rattle.log_adder.specs.ColumnInfo.{AllLow, lit}
+use Rattle.log_adder.specs.ColumnInfo.{AllLow}
+use Rattle.sat.specs.LitArray.{lit}
 use Rattle.log_adder.proofs.ColumnTerms.{every-replicate, every-set}
 use Rattle.columns_check.proofs.row_lits.Statement.{statement}
 use Rattle.columns_check.proofs.row_lits.Tie as tie

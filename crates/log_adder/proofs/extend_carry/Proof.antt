@@ -6,7 +6,7 @@ use Rattle.sat.specs.declared.Lit.{Lit}
 use borrow.Author.Needs.{needs}
 use Rattle.log_adder.proofs.extend_carry.Statement.{statement}
 use Rattle.log_adder.proofs.extend_carry.Tie as tie
-use Rattle.log_adder.specs.ColumnInfo.{lit}
+use Rattle.sat.specs.LitArray.{lit}
 use Rattle.log_adder.proofs.ColumnTerms.{every-replicate}
 use Rattle.log_adder.proofs.AdderLoops.{Extending, extending-end, extending-start, extending-turn}
 

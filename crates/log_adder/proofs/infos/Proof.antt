@@ -8,7 +8,8 @@ use lib.Dec.{lit<}
 use lib.ListN.{length, take, getD, set, length-set, length-map}
 use borrow.Author.Needs.{needs}
 use Rattle.mixed.specs.Infos.{AllSmall, Small, no-info}
-use Rattle.log_adder.specs.ColumnInfo.{lit, lit-info, range-info}
+use Rattle.log_adder.specs.ColumnInfo.{lit-info, range-info}
+use Rattle.sat.specs.LitArray.{lit}
 use Rattle.log_adder.proofs.ColumnTerms.{every-replicate, every-set, infos-more, infos-three}
 use Rattle.log_adder.proofs.infos.Statement.{statement}
 use Rattle.log_adder.proofs.infos.Tie as tie

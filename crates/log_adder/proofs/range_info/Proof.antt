@@ -2,7 +2,7 @@
 use borrow.Author.Needs.{needs}
 use mathlib.Core.Path.{ap}
 use Prim.Native.Nat.{ℕ}
-use Rattle.log_adder.specs.ColumnInfo.{lit}
+use Rattle.sat.specs.LitArray.{lit}
 use Rattle.log_adder.proofs.range_info.Statement.{statement}
 use Rattle.log_adder.proofs.range_info.Tie as tie
 

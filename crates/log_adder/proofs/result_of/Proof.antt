@@ -1,7 +1,7 @@
 -- `log_adder::result_of` meets its contract.
 use borrow.Author.Needs.{needs}
 use mathlib.Core.Path.{ap}
-use Rattle.log_adder.specs.ColumnInfo.{lit}
+use Rattle.sat.specs.LitArray.{lit}
 use Rattle.log_adder.proofs.result_of.Statement.{statement}
 use Rattle.log_adder.proofs.result_of.Tie as tie
 

@@ -10,13 +10,13 @@ use borrow.Author.Needs.{needs}
 use Rattle.log_gather.proofs.negate_all.Statement.{statement}
 use Rattle.log_gather.proofs.negate_all.Tie as tie
 use Rattle.sat.specs.Lit.{neg}
-use Rattle.log_adder.specs.ColumnInfo.{AllLow, lit}
+use Rattle.log_adder.specs.ColumnInfo.{AllLow}
+use Rattle.sat.specs.LitArray.{first-lits, lit}
 use Rattle.log_adder.proofs.ColumnTerms.{every-replicate, every-set}
-use Rattle.log_gather.specs.Arrays.{lits-of}
 use Rattle.log_gather.proofs.Constants.{neg-low, negate-more}
 
 abbrev Inv-loop : tie.InvT-loop
-Inv-loop n lits out₀ i₀ out i = (i ≤ n) × (length out ≡ 32) × (lits-of out i ≡ map neg (lits-of lits i)) × AllLow out
+Inv-loop n lits out₀ i₀ out i = (i ≤ n) × (length out ≡ 32) × (first-lits out i ≡ map neg (first-lits lits i)) × AllLow out
 
 abbrev μ-loop : tie.MeasureT-loop
 μ-loop n lits out₀ i₀ out i = n - i

@@ -2,7 +2,7 @@
 use Rattle.log_gather.proofs.push_bit.Statement.{statement}
 use Rattle.log_gather.proofs.push_bit.Tie as tie
 use Rattle.log_adder.specs.Gather.{push-value}
-use Rattle.log_gather.specs.Arrays.{lits-of}
+use Rattle.sat.specs.LitArray.{first-lits}
 use Rattle.log_gather.proofs.Pushing.{pushed-bit, pushed-no-bit}
 use Rattle.log_gather.proofs.Steps.{shl-reach}
 use mathlib.Core.Path.{_≡_}
@@ -17,10 +17,10 @@ push-value-requires : tie.Need-push-value-requires
 push-value-requires c κs = let s = c .before .before in let r = reach s (c .before .if1 .taken) in ((omega arith, s .pre .0 .1), s .pre .1)
 
 returns : tie.Need-returns
-returns c = let s = c .before .before .before in pushed-bit (s .args .k) (push-value (s .args .o) (lits-of (s .args .lits) (s .args .n))) (omega (arith, reach s (c .before .before .if1 .taken))) (c .before .before .if1 .taken) (c .push-value .ensures)
+returns c = let s = c .before .before .before in pushed-bit (s .args .k) (push-value (s .args .o) (first-lits (s .args .lits) (s .args .n))) (omega (arith, reach s (c .before .before .if1 .taken))) (c .before .before .if1 .taken) (c .push-value .ensures)
 
 returns-2 : tie.Need-returns-2
-returns-2 c = let s = c .before in pushed-no-bit (s .args .cols) (s .args .counts .now) (s .args .k) (push-value (s .args .o) (lits-of (s .args .lits) (s .args .n))) (c .if1 .left) (s .pre .1 .0)
+returns-2 c = let s = c .before in pushed-no-bit (s .args .cols) (s .args .counts .now) (s .args .k) (push-value (s .args .o) (first-lits (s .args .lits) (s .args .n))) (c .if1 .left) (s .pre .1 .0)
 
 pub push-bit-spec : {M : Type 1} → statement M
 push-bit-spec = tie.close (tie.spec push-value-requires returns returns-2)

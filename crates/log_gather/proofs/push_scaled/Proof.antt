@@ -7,17 +7,17 @@ use native.Mathlib.Omega.{arith}
 use borrow.Author.Needs.{needs}
 use Rattle.log_gather.proofs.push_scaled.Statement.{statement}
 use Rattle.log_gather.proofs.push_scaled.Tie as tie
-use Rattle.log_gather.specs.Arrays.{lits-of}
+use Rattle.sat.specs.LitArray.{first-lits}
 use Rattle.log_gather.proofs.Pushing.{Scaling, scaling-end, scaling-start, scaling-turn}
 
 abbrev Inv-loop : tie.InvT-loop
-Inv-loop counts₀ lits n coef steps out₀ k₀ o₀ counts out k o = Scaling steps (lits-of lits n) k₀ out₀ counts₀ out counts k o × (shl (o + n) k < 2 ^ 32)
+Inv-loop counts₀ lits n coef steps out₀ k₀ o₀ counts out k o = Scaling steps (first-lits lits n) k₀ out₀ counts₀ out counts k o × (shl (o + n) k < 2 ^ 32)
 
 abbrev μ-loop : tie.MeasureT-loop
 μ-loop counts₀ lits n coef steps out₀ k₀ o₀ counts out k o = steps - o
 
 loop-holds : tie.Need-loop-holds Inv-loop μ-loop
-loop-holds c = (scaling-start (c .args .steps) (lits-of (c .args .lits) (c .args .n)) (c .args .coef) (c .args .cols) (c .args .counts .now) (c .pre .1 .0), rw (zero-add (c .args .n)) (c .pre .0 .1))
+loop-holds c = (scaling-start (c .args .steps) (first-lits (c .args .lits) (c .args .n)) (c .args .coef) (c .args .cols) (c .args .counts .now) (c .pre .1 .0), rw (zero-add (c .args .n)) (c .pre .0 .1))
 
 push-bit-requires : tie.Need-push-bit-requires Inv-loop μ-loop
 push-bit-requires c κs =

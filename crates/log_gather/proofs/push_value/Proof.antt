@@ -7,13 +7,13 @@ use lib.ListN.{length, getD}
 use borrow.Author.Needs.{needs}
 use Rattle.log_gather.proofs.push_value.Statement.{statement}
 use Rattle.log_gather.proofs.push_value.Tie as tie
-use Rattle.log_adder.specs.ColumnInfo.{lit}
+use Rattle.sat.specs.LitArray.{first-lits, lit}
 use Rattle.log_adder.specs.Gather.{push-value}
-use Rattle.log_gather.specs.Arrays.{Pushed, lits-of}
+use Rattle.log_gather.specs.Arrays.{Pushed}
 use Rattle.log_gather.proofs.Pushing.{pushed-start, pushed-then, push-more}
 
 abbrev Inv-loop : tie.InvT-loop
-Inv-loop counts₀ n o lits out₀ j₀ counts out j = (j ≤ n) × Pushed j out₀ counts₀ (push-value o (lits-of lits j)) out counts
+Inv-loop counts₀ n o lits out₀ j₀ counts out j = (j ≤ n) × Pushed j out₀ counts₀ (push-value o (first-lits lits j)) out counts
 
 abbrev μ-loop : tie.MeasureT-loop
 μ-loop counts₀ n o lits out₀ j₀ counts out j = n - j
@@ -52,7 +52,7 @@ loop-again c =
     let l = c .before .before .before .before .loop in
     let w = c .push-lit in (
       omega arith,
-      pushed-then (push-value (s .args .o) (lits-of (s .args .t3) (l .j + 1))) (push-value (s .args .o) (lits-of (s .args .t3) (l .j))) (push-value (s .args .o + l .j) (getD (s .args .t3) (l .j) (lit 0) .0 ∷ []))
+      pushed-then (push-value (s .args .o) (first-lits (s .args .t3) (l .j + 1))) (push-value (s .args .o) (first-lits (s .args .t3) (l .j))) (push-value (s .args .o + l .j) (getD (s .args .t3) (l .j) (lit 0) .0 ∷ []))
           (push-more (s .args .o) (s .args .t3) (l .j) (omega (arith, lits-long s, s .pre .0 .0))) (l .inv .1) (w .ensures),
     )
 

@@ -3,7 +3,8 @@ use borrow.Author.Needs.{needs}
 use Rattle.log_linear.proofs.add.Statement.{statement}
 use Rattle.log_linear.proofs.add.Tie as tie
 use native.Mathlib.Omega.{arith}
-use Rattle.clause_set.specs.Clause.{clause-lits, num}
+use Rattle.clause_set.specs.Clause.{clause-lits}
+use Rattle.sat.specs.LitArray.{num}
 use mathlib.Core.List.{[], _∷_}
 use Rattle.log_linear.proofs.Adding.{added}
 use lib.ListN.{length-map, length-take, take}

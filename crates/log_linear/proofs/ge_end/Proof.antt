@@ -7,7 +7,7 @@ use mathlib.Core.List.{List, [], _∷_, _++_}
 use Prim.Native.Nat.{ℕ, _≤_}
 use native.Mathlib.Omega.{arith}
 use lib.ListN.{drop, length, length-drop, length-map}
-use Rattle.log_gather.specs.Arrays.{lits-of}
+use Rattle.sat.specs.LitArray.{first-lits}
 use Rattle.log_linear.specs.SubLit.{sub-clauses, sub-lits, sub-of}
 use Rattle.log_linear.specs.Compare.{none-of}
 use Rattle.log_linear.proofs.Adding.{added-as, added-then}
@@ -19,10 +19,10 @@ p-fits c = let e : length (c .args .p .lits) ≡ 32 = sym (length-map (c .args .
 
 -- the bits left of p and n
 abbrev p-left : tie.Start → List ℕ
-p-left c = drop (c .args .from) (lits-of (c .args .p .lits) (c .args .p .len))
+p-left c = drop (c .args .from) (first-lits (c .args .p .lits) (c .args .p .len))
 
 abbrev n-left : tie.Start → List ℕ
-n-left c = drop (c .args .from) (lits-of (c .args .n .lits) (c .args .n .len))
+n-left c = drop (c .args .from) (first-lits (c .args .n .lits) (c .args .n .len))
 
 sub-few : (c : tie.Start) → length (sub-lits (sub-of (c .args .sub))) ≤ c .args .from
 sub-few c = c .pre .0 .3
@@ -70,7 +70,7 @@ same-length-4 c = search needs
 returns-2 : tie.Need-returns-2
 returns-2 c =
     let s = c .before .before .before .before .before .before .before .before .before .before .before .before .before .before in
-    let d = length-drop (s .args .from) (lits-of (s .args .p .lits) (s .args .p .len)) in
+    let d = length-drop (s .args .from) (first-lits (s .args .p .lits) (s .args .p .len)) in
     let n = lits-long (s .args .p .lits) (s .args .p .len) (p-fits s) in
     let e = c .before .before .before .before .before .with-rest .ensures .1 ∙ ap (λ (q : List ℕ). q ++ p-left s) (c .before .before .before .before .before .before .before .before .sub-clause .ensures .1) in
     added-as _ (ap (λ (q : List ℕ). q ∷ []) e ∙ ge-end-some (sub-of (s .args .sub)) (p-left s) (n-left s) (omega (arith, d, n, s .pre .0, c .before .before .before .before .before .before .before .before .before .if1 .left))) (c .before .before .before .before .add .ensures)

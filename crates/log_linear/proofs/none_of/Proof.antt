@@ -8,7 +8,7 @@ use Prim.Native.Nat.{ℕ, _+_, _-_, _≤_}
 use native.Mathlib.Omega.{arith}
 use Rattle.clause_set.specs.Stores.{add-clauses, after}
 use Rattle.clause_set.proofs.Adding.{Going, going-start, going-turn}
-use Rattle.log_gather.specs.Arrays.{lits-of}
+use Rattle.sat.specs.LitArray.{first-lits}
 use Rattle.log_linear.specs.Compare.{none-of}
 use Rattle.log_linear.proofs.Adding.{added}
 use Rattle.log_linear.proofs.Literals.{lits-next, lits-none, lits-long}
@@ -17,7 +17,7 @@ use lib.ListN.{drop, length, length-drop, length-map}
 
 abbrev Inv-loop : tie.InvT-loop
 Inv-loop lits₀ ends₀ from bits n used₀ i₀ lits ends used i =
-    Going 0 lits₀ ends₀ used₀ (none-of (drop i₀ (lits-of bits n))) lits ends used (none-of (drop i (lits-of bits n)))
+    Going 0 lits₀ ends₀ used₀ (none-of (drop i₀ (first-lits bits n))) lits ends used (none-of (drop i (first-lits bits n)))
     × (used .lits + (n - i) ≤ used₀ .lits + 32) × (used .clauses + (n - i) ≤ used₀ .clauses + 32)
 
 abbrev μ-loop : tie.MeasureT-loop
@@ -25,7 +25,7 @@ abbrev μ-loop : tie.MeasureT-loop
 
 -- those left after a turn
 abbrev left : (c : tie.After-negated Inv-loop μ-loop) → List (List ℕ)
-left c = none-of (drop (c .before .before .before .before .before .loop .i + 1) (lits-of (c .before .before .before .before .before .before .before .before .before .args .b .lits) (c .before .before .before .before .before .before .before .before .before .args .b .len)))
+left c = none-of (drop (c .before .before .before .before .before .loop .i + 1) (first-lits (c .before .before .before .before .before .before .before .before .before .args .b .lits) (c .before .before .before .before .before .before .before .before .before .args .b .len)))
 
 bits-fit : (c : tie.Start Inv-loop μ-loop) → c .args .b .len ≤ length (c .args .b .lits)
 bits-fit c = let e : length (c .args .b .lits) ≡ 32 = sym (length-map (c .args .b .lits) _) ∙ c .good .1 .1 .0 .1 .1 .0 .1 .0 .1 in omega (arith, c .pre)
@@ -33,19 +33,19 @@ bits-fit c = let e : length (c .args .b .lits) ≡ 32 = sym (length-map (c .args
 -- the clause of a turn, and those left
 split : (c : tie.After-negated Inv-loop μ-loop)
     → let l = c .before .before .before .before .before .loop in let b = c .before .before .before .before .before .before .before .before .before .args .b in
-    none-of (drop (l .i) (lits-of (b .lits) (b .len))) ≡ ((c .negated .result .0 ∷ []) ∷ []) ++ none-of (drop (l .i + 1) (lits-of (b .lits) (b .len)))
+    none-of (drop (l .i) (first-lits (b .lits) (b .len))) ≡ ((c .negated .result .0 ∷ []) ∷ []) ++ none-of (drop (l .i + 1) (first-lits (b .lits) (b .len)))
 split c =
     let l = c .before .before .before .before .before .loop in
     let b = c .before .before .before .before .before .before .before .before .before .args .b in
     ap none-of (lits-next (b .lits) (b .len) (l .i) (bits-fit (c .before .before .before .before .before .before .before .before .before)) (c .before .before .before .before .loop-test .taken))
-    ∙ ap (λ (x : ℕ). (x ∷ []) ∷ none-of (drop (l .i + 1) (lits-of (b .lits) (b .len)))) (sym (c .negated .ensures))
+    ∙ ap (λ (x : ℕ). (x ∷ []) ∷ none-of (drop (l .i + 1) (first-lits (b .lits) (b .len)))) (sym (c .negated .ensures))
 
 loop-holds : tie.Need-loop-holds Inv-loop μ-loop
 loop-holds c =
     let s = c .before .before .before in
     let b = s .args .b in
-    let z = none-of-size (drop (s .args .from) (lits-of (b .lits) (b .len))) in
-    let d = length-drop (s .args .from) (lits-of (b .lits) (b .len)) in
+    let z = none-of-size (drop (s .args .from) (first-lits (b .lits) (b .len))) in
+    let d = length-drop (s .args .from) (first-lits (b .lits) (b .len)) in
     let n = lits-long (b .lits) (b .len) (bits-fit s) in
     (going-start _ (record { lits = omega (arith, s .pre, z, d, n); clauses = omega (arith, s .pre, z, d, n) }), omega (arith, s .pre), omega (arith, s .pre))
 

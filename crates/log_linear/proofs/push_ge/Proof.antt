@@ -8,8 +8,7 @@ use mathlib.Core.Option.{some}
 use Prim.Native.Nat.{ℕ, _+_, _-_, _*_, _≤_}
 use native.Mathlib.Omega.{arith}
 use lib.ListN.{drop, getD, length, length-drop, length-map}
-use Rattle.log_adder.specs.ColumnInfo.{lit}
-use Rattle.log_gather.specs.Arrays.{lits-of}
+use Rattle.sat.specs.LitArray.{first-lits, lit}
 use Rattle.log_linear.specs.Linear.{ge-bits}
 use Rattle.log_linear.specs.SubLit.{ge-end, ge-gate, ge-left, sub-lits, sub-of}
 use Rattle.log_linear.proofs.Adding.{added-as}
@@ -18,7 +17,7 @@ use Rattle.log_linear.proofs.Literals.{lits-next, lits-long}
 
 abbrev Inv-loop : tie.InvT-loop
 Inv-loop lits₀ ends₀ p n vars ps ns common sub₀ used₀ v₀ i₀ lits ends sub used v i =
-    RuleGoing lits₀ ends₀ used₀ (ge-bits (lits-of ps (p .len)) (lits-of ns (n .len)) v₀) lits ends used (ge-left (sub-of sub) (drop i (lits-of ps (p .len))) (drop i (lits-of ns (n .len))) v) i
+    RuleGoing lits₀ ends₀ used₀ (ge-bits (first-lits ps (p .len)) (first-lits ns (n .len)) v₀) lits ends used (ge-left (sub-of sub) (drop i (first-lits ps (p .len))) (drop i (first-lits ns (n .len))) v) i
     × (length (sub-lits (sub-of sub)) ≤ i) × (v ≡ v₀ + i) × (i ≤ common)
 
 abbrev μ-loop : tie.MeasureT-loop
@@ -32,10 +31,10 @@ n-fits c = let e : length (c .args .n .lits) ≡ 32 = sym (length-map (c .args .
 
 -- the bits of p and n from i on
 abbrev p-left : tie.Start Inv-loop μ-loop → ℕ → List ℕ
-p-left c i = drop i (lits-of (c .args .p .lits) (c .args .p .len))
+p-left c i = drop i (first-lits (c .args .p .lits) (c .args .p .len))
 
 abbrev n-left : tie.Start Inv-loop μ-loop → ℕ → List ℕ
-n-left c i = drop i (lits-of (c .args .n .lits) (c .args .n .len))
+n-left c i = drop i (first-lits (c .args .n .lits) (c .args .n .len))
 
 smaller-requires : tie.Need-smaller-requires Inv-loop μ-loop
 smaller-requires c κs = search needs
@@ -112,8 +111,8 @@ returns c =
     let m = c .before .before .before .before .before .before .before .before .before .smaller .ensures in
     let k = c .before .before .before .before .before .before .before .before .before .smaller .result in
     let i : k ≡ l .i = omega (arith, l .inv .3, c .before .before .before .before .before .before .before .loop-test .left) in
-    let x = length-drop (l .i) (lits-of (s .args .p .lits) (s .args .p .len)) in
-    let y = length-drop (l .i) (lits-of (s .args .n .lits) (s .args .n .len)) in
+    let x = length-drop (l .i) (first-lits (s .args .p .lits) (s .args .p .len)) in
+    let y = length-drop (l .i) (first-lits (s .args .n .lits) (s .args .n .len)) in
     let u = lits-long (s .args .p .lits) (s .args .p .len) (p-fits s) in
     let v = lits-long (s .args .n .lits) (s .args .n .len) (n-fits s) in
     rule-end (record { vars = l .v; used = c .before .before .before .before .ge-end .result }) (ge-end (sub-of (l .sub)) (p-left s (l .i)) (n-left s (l .i)))

@@ -8,8 +8,7 @@ use Prim.Native.Nat.{ℕ, _+_, _-_, _*_, _≤_}
 use native.Mathlib.Omega.{arith}
 use lib.ListN.{drop, getD, length, length-drop, length-map}
 use Rattle.clause_set.specs.Clause.{clause-lits}
-use Rattle.log_adder.specs.ColumnInfo.{lit}
-use Rattle.log_gather.specs.Arrays.{lits-of}
+use Rattle.sat.specs.LitArray.{first-lits, lit}
 use Rattle.log_linear.specs.Compare.{ne-bits, xor-gate}
 use Rattle.log_linear.proofs.Adding.{added-as}
 use Rattle.log_linear.proofs.Comparing.{RuleGoing, ne-end, ne-step, rule-end, rule-start, rule-turn}
@@ -17,7 +16,7 @@ use Rattle.log_linear.proofs.Literals.{lits-next, lits-long}
 
 abbrev Inv-loop : tie.InvT-loop
 Inv-loop lits₀ ends₀ p n vars ps ns common c₀ used₀ v₀ i₀ lits ends c used v i =
-    RuleGoing lits₀ ends₀ used₀ (ne-bits (lits-of ps (p .len)) (lits-of ns (n .len)) [] v₀) lits ends used (ne-bits (drop i (lits-of ps (p .len))) (drop i (lits-of ns (n .len))) (clause-lits c) v) i
+    RuleGoing lits₀ ends₀ used₀ (ne-bits (first-lits ps (p .len)) (first-lits ns (n .len)) [] v₀) lits ends used (ne-bits (drop i (first-lits ps (p .len))) (drop i (first-lits ns (n .len))) (clause-lits c) v) i
     × (c .len ≡ i) × (v ≡ v₀ + i) × (i ≤ common)
 
 abbrev μ-loop : tie.MeasureT-loop
@@ -31,10 +30,10 @@ n-fits c = let e : length (c .args .n .lits) ≡ 32 = sym (length-map (c .args .
 
 -- the bits of p and n from i on
 abbrev p-left : tie.Start Inv-loop μ-loop → ℕ → List ℕ
-p-left c i = drop i (lits-of (c .args .p .lits) (c .args .p .len))
+p-left c i = drop i (first-lits (c .args .p .lits) (c .args .p .len))
 
 abbrev n-left : tie.Start Inv-loop μ-loop → ℕ → List ℕ
-n-left c i = drop i (lits-of (c .args .n .lits) (c .args .n .len))
+n-left c i = drop i (first-lits (c .args .n .lits) (c .args .n .len))
 
 smaller-requires : tie.Need-smaller-requires Inv-loop μ-loop
 smaller-requires c κs = search needs
@@ -122,8 +121,8 @@ returns c =
     let s = c .before .before .before .before .before .before .before .before .before .before .before .before .before .before .before .before .before in
     let l = c .before .before .before .before .before .before .before .before .before .before .loop in
     let m = c .before .before .before .before .before .before .before .before .before .before .before .before .smaller .ensures in
-    let x = length-drop (l .i) (lits-of (s .args .p .lits) (s .args .p .len)) in
-    let y = length-drop (l .i) (lits-of (s .args .n .lits) (s .args .n .len)) in
+    let x = length-drop (l .i) (first-lits (s .args .p .lits) (s .args .p .len)) in
+    let y = length-drop (l .i) (first-lits (s .args .n .lits) (s .args .n .len)) in
     let u = lits-long (s .args .p .lits) (s .args .p .len) (p-fits s) in
     let v = lits-long (s .args .n .lits) (s .args .n .len) (n-fits s) in
     let e = c .before .before .before .before .before .before .before .with-rest2 .ensures .1 ∙ ap (λ (q : List ℕ). q ++ n-left s (l .i)) (c .before .before .before .before .before .before .before .before .with-rest .ensures .1) in

@@ -8,13 +8,12 @@ use Prim.Native.Nat.{ℕ, _+_, _-_}
 use native.Mathlib.Omega.{arith}
 use lib.ListN.{drop, getD, length, length-map}
 use Rattle.clause_set.specs.Clause.{clause-lits}
-use Rattle.log_adder.specs.ColumnInfo.{lit}
-use Rattle.log_gather.specs.Arrays.{lits-of}
+use Rattle.sat.specs.LitArray.{first-lits, lit}
 use Rattle.log_linear.proofs.Literals.{lits-next, lits-none}
 
 abbrev Inv-loop : tie.InvT-loop
 Inv-loop from lits n out₀ i₀ out i =
-    (out .len + (n - i) ≡ out₀ .len + (n - i₀)) × (clause-lits out ++ drop i (lits-of lits n) ≡ clause-lits out₀ ++ drop i₀ (lits-of lits n))
+    (out .len + (n - i) ≡ out₀ .len + (n - i₀)) × (clause-lits out ++ drop i (first-lits lits n) ≡ clause-lits out₀ ++ drop i₀ (first-lits lits n))
 
 abbrev μ-loop : tie.MeasureT-loop
 μ-loop from lits n out₀ i₀ out i = n - i
@@ -47,8 +46,8 @@ loop-again c =
     let b = s .args .b in
     let w = c .with .ensures in (
       omega (arith, w .0, l .inv .0, c .before .before .loop-test .taken),
-      ap (λ (q : List ℕ). q ++ drop (l .i + 1) (lits-of (b .lits) (b .len))) (w .1)
-          ∙ append-assoc (clause-lits (l .out)) (getD (b .lits) (l .i) (lit 0) .0 ∷ []) (drop (l .i + 1) (lits-of (b .lits) (b .len)))
+      ap (λ (q : List ℕ). q ++ drop (l .i + 1) (first-lits (b .lits) (b .len))) (w .1)
+          ∙ append-assoc (clause-lits (l .out)) (getD (b .lits) (l .i) (lit 0) .0 ∷ []) (drop (l .i + 1) (first-lits (b .lits) (b .len)))
           ∙ ap (λ (q : List ℕ). clause-lits (l .out) ++ q) (sym (lits-next (b .lits) (b .len) (l .i) (omega (arith, s .pre, bits-long s)) (c .before .before .loop-test .taken)))
           ∙ l .inv .1,
     )

@@ -6,7 +6,7 @@ use mathlib.Core.Path.{_∙_, refl}
 use lib.Dec.{lit<}
 use Prim.Native.Nat.{_<_, _^_}
 use Rattle.sat.specs.declared.Lit.{Lit}
-use Rattle.log_adder.specs.ColumnInfo.{lit}
+use Rattle.sat.specs.LitArray.{lit}
 use Rattle.log_adder.proofs.ColumnTerms.{every-replicate}
 use Rattle.log_terms.specs.Terms.{weighted-all}
 use Rattle.log_sum.proofs.SignSum.{sign-ready, sign-tall, sum-added}

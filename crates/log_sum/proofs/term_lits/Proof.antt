@@ -8,13 +8,13 @@ use native.Mathlib.Omega.{arith}
 use lib.Dec.{lit<}
 use lib.ListN.{getD, length, length-set}
 use Rattle.sat.specs.declared.Lit.{Lit}
-use Rattle.log_adder.specs.ColumnInfo.{lit}
+use Rattle.sat.specs.LitArray.{first-lits, lit}
 use Rattle.log_adder.proofs.ColumnTerms.{every-replicate, every-set}
-use Rattle.log_gather.specs.Arrays.{AllSmall, lits-of}
+use Rattle.log_gather.specs.Arrays.{AllSmall}
 use Rattle.log_sum.proofs.Settings.{lits-more}
 
 abbrev Inv-loop : tie.InvT-loop
-Inv-loop n lits out₀ i₀ out i = (i ≤ n) × (length out ≡ 32) × (lits-of out i ≡ lits-of lits i) × AllSmall out
+Inv-loop n lits out₀ i₀ out i = (i ≤ n) × (length out ≡ 32) × (first-lits out i ≡ first-lits lits i) × AllSmall out
 
 abbrev μ-loop : tie.MeasureT-loop
 μ-loop n lits out₀ i₀ out i = n - i

@@ -9,7 +9,7 @@ use Prim.Native.Nat.{_-_, _≤_}
 use native.Mathlib.Omega.{arith}
 use lib.ListN.{getD, length}
 use Rattle.log_adder.specs.Gather.{push-scaled}
-use Rattle.log_gather.specs.Arrays.{lits-of}
+use Rattle.sat.specs.LitArray.{first-lits}
 use Rattle.log_linear.specs.Linear.{Weighted, gather-sign}
 use Rattle.log_terms.specs.Terms.{no-term, weighted-all}
 use Rattle.log_terms.proofs.Gathering.{terms-next, terms-none, Gathering, empty-column, gathering-end, gathering-few, gathering-start, gathering-turn}
@@ -58,7 +58,7 @@ loop-again c =
     let f = s .pre .0 in
     let t = getD (s .args .t1) (l .i) no-term in
     let e = terms-next (s .args .t1) (s .args .n) (l .i) (omega (arith, terms-long s, f .few)) (c .before .before .before .loop-test .taken) in (
-      gathering-turn (l .inv .0) (λ g. cond (Bool·beq (s .args .sign) (t .negative)) (push-scaled 12 (t .coef) 0 (lits-of (t .lits) (t .len)) g) g)
+      gathering-turn (l .inv .0) (λ g. cond (Bool·beq (s .args .sign) (t .negative)) (push-scaled 12 (t .coef) 0 (first-lits (t .lits) (t .len)) g) g)
           (ap (λ (ps : List Weighted). gather-sign (s .args .sign) ps (l .inv .0 .left .grid)) e) (c .push-term .ensures),
       omega (arith, c .before .before .before .loop-test .taken),
     )

@@ -8,7 +8,7 @@ use native.Mathlib.Omega.{arith}
 use lib.ListN.{length}
 use Rattle.sat.specs.Lit.{neg}
 use Rattle.log_adder.specs.Gather.{push-scaled}
-use Rattle.log_gather.specs.Arrays.{lits-of}
+use Rattle.sat.specs.LitArray.{first-lits}
 use Rattle.log_linear.specs.Linear.{positive-lits}
 use Rattle.log_terms.specs.Terms.{weighted-of}
 use Rattle.log_linear.proofs.Size.{length-positive}
@@ -37,12 +37,12 @@ returns-2 c =
     let s = c .before .before .before .before .before .before .before in
     let t = s .args .t in
     let n = many s in
-    let p : positive-lits (weighted-of t) ≡ map neg (lits-of (t .lits) (t .len)) = rw (c .before .before .before .if2 .taken) in
+    let p : positive-lits (weighted-of t) ≡ map neg (first-lits (t .lits) (t .len)) = rw (c .before .before .before .if2 .taken) in
     let e = c .before .before .negate-all .ensures .0 ∙ sym p in
     let some = c .before .before .before .before .before .if1 .left in
     let h : 0 < length (positive-lits (weighted-of t)) = omega arith in
-    pushed-as (push-scaled (s .args .steps) (t .coef) 0 (lits-of (c .before .before .negate-all .result) (t .len))) _
-    (λ g. enough t (s .pre .0 .1) (s .pre .0 .0) (lits-of (c .before .before .negate-all .result) (t .len)) g ∙ ap (λ (ls : List ℕ). push-scaled 12 (t .coef) 0 ls g) e
+    pushed-as (push-scaled (s .args .steps) (t .coef) 0 (first-lits (c .before .before .negate-all .result) (t .len))) _
+    (λ g. enough t (s .pre .0 .1) (s .pre .0 .0) (first-lits (c .before .before .negate-all .result) (t .len)) g ∙ ap (λ (ls : List ℕ). push-scaled 12 (t .coef) 0 ls g) e
     ∙ some-pushed (t .coef) (positive-lits (weighted-of t)) g h) (c .push-scaled .ensures)
 
 push-scaled-requires-2 : tie.Need-push-scaled-requires-2
@@ -56,11 +56,11 @@ returns-3 c =
     let s = c .before .before .before .before .before .before in
     let t = s .args .t in
     let n = many s in
-    let p : lits-of (t .lits) (t .len) ≡ positive-lits (weighted-of t) = rw (c .before .before .if2 .left) in
+    let p : first-lits (t .lits) (t .len) ≡ positive-lits (weighted-of t) = rw (c .before .before .if2 .left) in
     let some = c .before .before .before .before .if1 .left in
     let h : 0 < length (positive-lits (weighted-of t)) = omega arith in
-    pushed-as (push-scaled (s .args .steps) (t .coef) 0 (lits-of (t .lits) (t .len))) _
-    (λ g. enough t (s .pre .0 .1) (s .pre .0 .0) (lits-of (t .lits) (t .len)) g ∙ ap (λ (ls : List ℕ). push-scaled 12 (t .coef) 0 ls g) p
+    pushed-as (push-scaled (s .args .steps) (t .coef) 0 (first-lits (t .lits) (t .len))) _
+    (λ g. enough t (s .pre .0 .1) (s .pre .0 .0) (first-lits (t .lits) (t .len)) g ∙ ap (λ (ls : List ℕ). push-scaled 12 (t .coef) 0 ls g) p
     ∙ some-pushed (t .coef) (positive-lits (weighted-of t)) g h) (c .push-scaled2 .ensures)
 
 pub push-eq-term-spec : {M : Type 1} → statement M

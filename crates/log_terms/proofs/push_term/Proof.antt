@@ -2,7 +2,7 @@
 use Rattle.log_terms.proofs.push_term.Statement.{statement}
 use Rattle.log_terms.proofs.push_term.Tie as tie
 use native.Mathlib.Omega.{arith}
-use Rattle.log_gather.specs.Arrays.{lits-of}
+use Rattle.sat.specs.LitArray.{first-lits}
 use Rattle.log_adder.specs.Gather.{push-scaled}
 use Rattle.log_terms.proofs.Gathering.{all-low, enough, pushed-as, pushed-nothing}
 
@@ -16,7 +16,7 @@ returns : tie.Need-returns
 returns c =
     let s = c .before .before .before .before .before in
     let t = s .args .t in
-    pushed-as (push-scaled (s .args .steps) (t .coef) 0 (lits-of (t .lits) (t .len))) _ (λ g. rw (c .before .before .before .if1 .taken) (enough t (s .pre .0 .1) (s .pre .0 .0) (lits-of (t .lits) (t .len)) g)) (c .push-scaled .ensures)
+    pushed-as (push-scaled (s .args .steps) (t .coef) 0 (first-lits (t .lits) (t .len))) _ (λ g. rw (c .before .before .before .if1 .taken) (enough t (s .pre .0 .1) (s .pre .0 .0) (first-lits (t .lits) (t .len)) g)) (c .push-scaled .ensures)
 
 returns-2 : tie.Need-returns-2
 returns-2 c = let s = c .before .before in pushed-nothing 384 _ (λ g. rw (c .if1 .left)) (s .pre .1 .0)

@@ -9,7 +9,8 @@ use Prim.Native.Nat.{ℕ, _-_, _≤_}
 use native.Mathlib.Omega.{arith}
 use lib.ListN.{getD, length}
 use Rattle.log_adder.specs.Gather.{push-scaled}
-use Rattle.log_gather.specs.Arrays.{lits-of, widths}
+use Rattle.log_gather.specs.Arrays.{widths}
+use Rattle.sat.specs.LitArray.{first-lits}
 use Rattle.log_linear.specs.Linear.{Weighted, gather-sign}
 use Rattle.log_terms.specs.Terms.{no-term, weighted-all, weighted-of}
 use Rattle.log_terms.proofs.Gathering.{terms-next, terms-none, WidthLeft, sign-length, term-long, width-end, width-start, width-turn}
@@ -52,9 +53,9 @@ loop-again c =
     let f = s .pre in
     let t = getD (s .args .t1) (l .i) no-term in
     let k = c .before .before .loop-test .taken in
-    let n : length (lits-of (t .lits) (t .len)) ≡ t .len = term-long t (f .fits (l .i) k) in
+    let n : length (first-lits (t .lits) (t .len)) ≡ t .len = term-long t (f .fits (l .i) k) in
     let e = terms-next (s .args .t1) (s .args .n) (l .i) (omega (arith, terms-long s, f .few)) k in (
-      width-turn (l .inv .0) (λ g. cond (Bool·beq (s .args .sign) (t .negative)) (push-scaled 12 (t .coef) 0 (lits-of (t .lits) (t .len)) g) g) _
+      width-turn (l .inv .0) (λ g. cond (Bool·beq (s .args .sign) (t .negative)) (push-scaled 12 (t .coef) 0 (first-lits (t .lits) (t .len)) g) g) _
           (ap (λ (ps : List Weighted). gather-sign (s .args .sign) ps (l .inv .0 .left .grid)) e)
           (c .width-with-term .ensures .0 ∙ ap (λ (x : ℕ). cond (Bool·beq (s .args .sign) (t .negative)) (widths 12 (t .coef) 0 (t .len) x) x) (l .inv .0 .long)
           ∙ sym (rw n at (sign-length (s .args .sign) (weighted-of t) (l .inv .0 .left .grid)))),

@@ -8,7 +8,7 @@ use lib.ListN.{replicate}
 use lib.Seq.{sets}
 use Rattle.sat.specs.Fresh.{fresh}
 use Rattle.sat.proofs.Fresh.{length-fresh}
-use Rattle.log_var.specs.Record.{lit}
+use Rattle.sat.specs.LitArray.{lit}
 use Rattle.log_var.proofs.Bits.{placed-all, placed-turn}
 use Rattle.log_var.proofs.Steps.{fresh-end, fresh-start, fresh-step}
 use Rattle.log_var.proofs.new_lits.Statement.{statement}

@@ -7,7 +7,7 @@ use mir.Val.{boolByte}
 use Prim.Native.Nat.{ℕ, _-_, _≤_, _<_}
 use native.Mathlib.Omega.{arith}
 use lib.ListN.{drop, length, take}
-use Rattle.clause_set.specs.Clause.{num}
+use Rattle.sat.specs.LitArray.{num}
 use Rattle.log_var.specs.Record.{code-of-bytes}
 use Rattle.log_var.proofs.Reading.{code-none, code-small, code-turn}
 use Rattle.log_var.proofs.read_code.Statement.{statement}
