@@ -1,6 +1,6 @@
 """Lines for the program crate replay_lines: each is a script of its own, most cannot be read.
 
-`linear` and `mul` come up only where they cannot be read.
+`mul` comes up only where it cannot be read.
 """
 
 from badlines import BAD_LINES
@@ -26,6 +26,16 @@ GOOD_LINES = [
     f"list {-I32 - 1} {I32}",
     "list" + " 0" * MAX_INTEGERS,
     f"binary {U32} {I32} {-I32 - 1}",
+    "mul 0 0 0",
+    f"mul {U32} 00 -0",
+    "linear 0 0",
+    "linear 00 -0 -00",
+    "linear 1 0 0 1",
+    "linear 2 -3",
+    f"linear {U32} {I32}",
+    f"linear 3 {-I32 - 1} {I32} {-I32 - 1} {I32}",
+    "linear 0 0" + " 0" * (MAX_INTEGERS - 1),
+    "linear 0 1000001" + " 0" * MAX_INTEGERS,
     "read 0",
     "read 0 255",
     "read 0 -0 000000255",
@@ -45,6 +55,15 @@ WORDS += ["\u00e4", "-1", "0"]
 TOKENS = ["", "-", "--0", "-0-", "0-", "+0", "1.", "0x1", "1_0", "\t0", "0\t", "0\r", "\0"]
 TOKENS += ["\u0660", ":", "/"]
 LARGE = [U32 + 1, 10**10 - 1, 10**10, 10**11, 2**64 - 1, 2**64, 10**30, -(10**30)]
+
+# Sums that cannot be read: an operation, a constant or an entry outside its type, a list too long.
+MUL = ["mul", "mul 0 0", "mul 0 0 0 0", "mul 0 0 x", "mul -1 0 0", f"mul 0 {U32 + 1} 0", "mul 0 0  0"]
+LINEAR = ["linear  0 0", "linear x 0", "linear 0 x", "linear - 0", "linear 0 -", "linear 0 0 1 x"]
+LINEAR += [f"linear {n} 0" for n in (-1, U32 + 1, 10**11)]
+LINEAR += [f"linear 0 {n}" for n in (I32 + 1, U32, -I32 - 2)]
+LINEAR += [f"linear 0 0 {n}" for n in (I32 + 1, U32, -I32 - 2)]
+LINEAR += [f"linear 0 0 0 {n}" for n in (I32 + 1, U32, -I32 - 2)]
+LINEAR += ["linear 0 0" + " 0" * (MAX_INTEGERS + 1), "linea 0 0", "linears 0 0", "Linear 0 0"]
 
 
 def job_line(at, number):
@@ -74,5 +93,6 @@ def lines():
     texts += ["clause 0 0", "binary 0 0 1 2", f"binary {U32 + 1} 0 1", f"binary 0 {I32 + 1} 0"]
     texts += ["stores", "stores 1 2 3", "stores -1 0", "stores 524289 131072", "stores 0 131073"]
     texts += ["read -1", "read 0" + " 0" * (MAX_BYTES + 1), "list" + " 0" * (MAX_INTEGERS + 1)]
+    texts += [f"linear 0 0 {token}" for token in TOKENS + LARGE] + LINEAR + MUL
     texts += [*job_lines(), "open 7"]
     return [text.encode() for text in texts]

@@ -4,19 +4,21 @@
   replay_vectors.py SEED [DIRECTORY]   writes stdin and stdout of DIRECTORY/replay and of
                                        DIRECTORY/replay_lines (crates if absent)
 
-The script for replay is made of chapters (replay_chapters.py), then of random scripts, and ends in
-a line that cannot be read. Each line for replay_lines is answered as a script of its own
-(replay_lines.py). What was reached is printed: calls and refusals by number.
+The script for replay is made of chapters (replay_chapters.py, replay_sums.py, replay_products.py),
+then of random scripts, and ends in a line that cannot be read. Each line for replay_lines is answered as a script
+of its own (replay_lines.py). What was reached is printed: calls by number, sums by operation.
 """
 
 import argparse
 import io
 import random
-from collections import Counter
 from pathlib import Path
 
 import replay_chapters
 import replay_lines
+import replay_products
+import replay_sums
+from coverage import Counted, report
 from driver import Driver
 from judge import add_driver_option
 from script import Script
@@ -24,9 +26,9 @@ from scripts import Generator
 
 DIRECTORY = Path(__file__).resolve().parent.parent / "crates"
 
-# Words whose calls do not run yet.
-WITHOUT = ["linear", "mul"]
 RANDOM = {"settings": 150, "edges": 200, "space": 150, "forged": 110}
+RANDOM |= {"linear": 150, "eq": 100, "ne": 100, "ge": 100, "heights": 60, "dead": 150}
+RANDOM |= {"mul": 60, "shifted": 40, "same": 40}
 LONGEST = 2_000
 END = ["", "", "range 0 x", "show", "open 1"]
 
@@ -35,34 +37,16 @@ def random_lines(driver, seed):
     """Random scripts; a reading changes nothing, so one with a very long line is left out."""
     lines = []
     for kind, count in RANDOM.items():
-        generator = Generator(kind, random.Random(f"{kind} {seed}"), driver, without=WITHOUT)
+        generator = Generator(kind, random.Random(f"{kind} {seed}"), driver)
         drawn = generator.run(count)
         lines += [line for line in drawn if not (line.startswith("read") and len(line) > LONGEST)]
     return lines
 
 
-def answer(driver, data):
+def answer(script, data):
     out = io.StringIO()
-    Script(driver).run(data, out)
+    script.run(data, out)
     return out.getvalue().encode()
-
-
-def coverage(driver, lines):
-    """How often each call answers each number."""
-    script, counts = Script(driver), Counter()
-    for line in lines:
-        word = line.split(" ")[0]
-        answers = script.line(line.encode()) if line else []
-        if answers and word != "show":
-            counts[word, int(answers[0].split(" ")[0])] += 1
-    return counts
-
-
-def report(counts):
-    for word in sorted({word for word, _ in counts}):
-        rows = sorted((status, n) for (w, status), n in counts.items() if w == word)
-        print(f"{word:8}" + "  ".join(f"{status}: {n}" for status, n in rows))
-    print(f"calls   {sum(counts.values())}")
 
 
 def write(directory, stdin, stdout):
@@ -79,12 +63,16 @@ def main():
     add_driver_option(parser)
     options = parser.parse_args()
     driver = Driver(options.driver)
-    lines = replay_chapters.lines(driver) + random_lines(driver, options.seed)
+    lines = replay_chapters.lines(driver)
+    lines += replay_sums.lines(driver, random.Random(f"sums {options.seed}"))
+    lines += replay_products.lines(driver)
+    lines += random_lines(driver, options.seed)
     data = "".join(line + "\n" for line in lines + END).encode()
-    write(options.directory / "replay", data, answer(driver, data))
-    report(coverage(driver, lines))
+    script = Counted(driver)
+    write(options.directory / "replay", data, answer(script, data))
+    report(script.numbers, script.sums)
     alone = replay_lines.lines()
-    answers = [answer(driver, line) for line in alone]
+    answers = [answer(Script(driver), line) for line in alone]
     write(options.directory / "replay_lines", b"\n".join(alone), b"".join(answers))
     bad = sum(text == b"bad line 1\n" for text in answers)
     print(f"lines   {len(alone)}, of which {bad} cannot be read")

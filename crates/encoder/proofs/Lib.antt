@@ -8,3 +8,4 @@ pub mod AddedSetting
 pub mod AddedSum
 pub mod SumCode
 pub mod AddedProduct
+pub mod ProductCode

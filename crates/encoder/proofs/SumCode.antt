@@ -20,7 +20,7 @@ use Rattle.encoder.specs.Sums.{coef-at, coef-fits, setting-at, setting-k
 use Rattle.encoder.proofs.AddedSum.{ArgumentsKnown, SumKnown, coef-small, setting-below}
 
 -- a record of a well-formed job, in use or spare
-setting-ready : (env : EncoderEnv) (lits ends : ℕ) → Kept env lits ends → (i : ℕ) → i < 32 → SettingReady (encoding-at env i)
+pub setting-ready : (env : EncoderEnv) (lits ends : ℕ) → Kept env lits ends → (i : ℕ) → i < 32 → SettingReady (encoding-at env i)
 unfolding record-holds is-spare
 setting-ready env lits ends k i h = go (ltb i (env .count)) refl (all-at (record-holds env) 32 i (k .records) h)
   where

@@ -15,8 +15,10 @@ use Rattle.log_var.specs.EncodeVarLog.{encode-var-log}
 use Rattle.log_var.specs.declared.EncodedVar.{EncodedVar}
 use Rattle.log_adder.specs.Size.{too-tall}
 use Rattle.log_linear.specs.declared.RuleCounts.{RuleCounts}
+use Rattle.log_product.specs.Ready.{ProductsReady}
 use Rattle.log_sum.specs.Settings.{TermsReady}
 use Rattle.encoder_env.specs.declared.EncoderEnv.{EncoderEnv}
+use Rattle.encoder.specs.Products.{product-reached}
 use Rattle.encoder.specs.Sums.{sum-reached}
 
 -- the clauses and literals in use
@@ -46,6 +48,14 @@ pub record SumReady (env : EncoderEnv) (op : ℕ) (constant : ℤ) (terms : List
   pub lits-fit : at .lits ≤ 16777216
   pub clauses-fit : at .clauses ≤ 16777216
   pub heights : too-tall (sum-reached env op constant terms) ≡ false
+
+-- what those of a product ask
+pub record MulReady (env : EncoderEnv) (x y m : ℕ) (at : Counts) : Type 0 where
+  pub settings-ready : ProductsReady (env .encodings) x y m
+  pub vars-fit : env .variables ≤ 65535
+  pub lits-fit : at .lits ≤ 16777216
+  pub clauses-fit : at .clauses ≤ 16777216
+  pub heights : too-tall (product-reached env x y m) ≡ false
 
 -- the job with these counts
 abbrev pub job-with : EncoderEnv → ℕ → Counts → EncoderEnv

@@ -10,6 +10,7 @@ ghost use Rattle.encoder.specs.Calls.{all-bits, all-in-range, clause-che
 ghost use Rattle.encoder.specs.Adding.{space-checks};
 ghost use Rattle.encoder.specs.Sizes.{SizeOf, counts-of, job-after, job-with};
 
+pub mod products; // products.rt: the call for products
 pub mod sums; // sums.rt: the call for sums
 
 use clause_set::Counts;

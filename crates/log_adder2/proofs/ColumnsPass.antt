@@ -1,41 +1,45 @@
--- The columns' pass: its invariant; and the two passes together are the definition.
+-- The columns' pass: its invariant; and the returned set.
 use mathlib.Core.Path.{_≡_, refl, ap, sym, _∙_}
 use mathlib.Core.Bool.{Bool, true, false, cond}
-use mathlib.Core.List.{List, [], _∷_, _++_, append-nil}
-use mathlib.Core.Option.{none, some}
+use mathlib.Core.List.{List, [], _∷_, _++_}
+use mathlib.Core.Option.{Option, none, some}
 use Prim.Native.Nat.{ℕ, zero, suc, _+_, _-_, _*_, _/_, _%_, _≤_, _<_}
 use native.Mathlib.Nat.{not-suc-le-zero, sub-zero}
 use native.Mathlib.Numerals.{sub-one}
 use native.Mathlib.Omega.{arith}
 use borrow.Author.Tests.{leb-true, leb-false}
 use lib.Dec.{leb}
-use lib.ListN.{length, getD, length-map, length-take}
+use lib.ListN.{length, getD}
 use Rattle.sat.specs.declared.Lit.{Lit}
 use Rattle.clause_set.specs.declared.Counts.{Counts}
 use Rattle.log_adder.specs.declared.VarRange.{VarRange}
 use Rattle.log_adder2.specs.declared.EqInput.{EqInput}
 use Rattle.log_adder2.specs.declared.EqState.{EqState}
+use Rattle.log_adder2.specs.declared.EqCounts.{EqCounts}
+use Rattle.log_adder2.specs.declared.Column.{Column}
+use Rattle.log_adder2.specs.declared.Column.the-variants.{Carry, Dead}
+use Rattle.sat.specs.declared.Var.{Var}
 use Rattle.sat.specs.Clause.{Clauses}
 use Rattle.clause_set.specs.Stores.{Stores, add-clauses, after}
 use Rattle.clause_set.proofs.Adding.{add-append, count-after, used-after}
 use Rattle.sat.specs.Fresh.{fresh}
 use Rattle.log_adder.specs.ColumnInfo.{range-lits}
-use Rattle.sat.proofs.Fresh.{length-fresh}
-use Rattle.log_adder.specs.Adder2.{Adder2Output, adder2-clauses, eq-column, ordering, prepend, returned-set}
-use Rattle.log_adder2.specs.EqState.{Carries, CarriesOrdered, EqAdded, EqCounted, EqFits, EqInBounds, Wrote, carries, carries-from, carries-then, columns-clauses, eq-carry-count, eq-output, next-state, no-vars, output-at, target-bit}
+use Rattle.log_adder.specs.Adder2.{Adder2Output, NewCarry, adder2-clauses, eq-column, ordering, returned-set}
 use Rattle.log_adder.specs.AdderState.{own-at}
+use Rattle.log_adder2.specs.EqState.{Carries, EqAdded, EqCounted, EqFits, EqInBounds, Wrote, carries, carries-from, carries-then, carry-of, columns-clauses, eq-carry-count, eq-output, is-dead, next-state, no-vars, target-bit}
 use Rattle.log_adder2.proofs.EqHeights.{column-fits, fits-step, tall-from}
-use Rattle.log_adder2.proofs.OrderingPass.{start-state, carries-dead, carries-step}
+use Rattle.log_adder2.proofs.OrderingPass.{start-state}
+use Rattle.log_adder2.proofs.Passes.{carries-dead, carries-step, carry-in, passes-are}
 
 -- Where there is no dead end ------------------------------------------------------------------------------------------
 
 module _ (counts : List ℕ) where
-  pub target-fits : (w i x y c v : ℕ) → 0 < w → carries-from w i counts x y c v .dead ≡ false → (x + y) % 2 ≤ getD counts i 0 + c
-  target-fits w i x y c v z h = go (leb ((x + y) % 2) (getD counts i 0 + c)) refl where
-    go : (t : Bool) → leb ((x + y) % 2) (getD counts i 0 + c) ≡ t → (x + y) % 2 ≤ getD counts i 0 + c
-    go true e = leb-true ((x + y) % 2) (getD counts i 0 + c) e
+  pub target-fits : (w i x y : ℕ) (p : VarRange) (v : ℕ) → 0 < w → is-dead (carries-from w i counts x y (carry-in p v) .last) ≡ false → (x + y) % 2 ≤ getD counts i 0 + p .count
+  target-fits w i x y p v z h = go (leb ((x + y) % 2) (getD counts i 0 + p .count)) refl where
+    go : (t : Bool) → leb ((x + y) % 2) (getD counts i 0 + p .count) ≡ t → (x + y) % 2 ≤ getD counts i 0 + p .count
+    go true e = leb-true ((x + y) % 2) (getD counts i 0 + p .count) e
     go false e =
-        let d = ap (λ (s : Carries). s .dead) (carries-dead counts w i x y c v z (leb-false ((x + y) % 2) (getD counts i 0 + c) e)) in
+        let d = ap (λ (s : Carries). is-dead (s .last)) (carries-dead counts w i x y p v z (leb-false ((x + y) % 2) (getD counts i 0 + p .count) e)) in
         let z : _≡_ {A = ℕ} 0 1 = cc in
         absurd (omega arith)
 
@@ -63,7 +67,7 @@ module _ (cols : List (List Lit)) (counts : List ℕ) where
       pub lits-long : length d ≡ length d₀
       pub ends-long : length e ≡ length e₀
       pub fits : tall-from counts (suc (last - i)) i (s .x) (s .y) (s .carry .count) ≡ false
-      pub live : carries-from (last - i) i counts (s .x) (s .y) (s .carry .count) (s .vars) .dead ≡ false
+      pub live : is-dead (carries-from (last - i) i counts (s .x) (s .y) (carry-in (s .carry) (s .vars)) .last) ≡ false
       pub same : add-clauses 0 (columns-clauses last 0 cols counts (s₀ .x) (s₀ .y) (s₀ .carry) (s₀ .vars)) (after d₀ e₀ (s₀ .used)) ≡ add-clauses 0 (coming s i) (after d e (s .used))
 
     module _ {d₀ e₀ : List ℕ} {s₀ : EqState} {d e : List ℕ} {s : EqState} {i : ℕ} (m : ColumnsLeft d₀ e₀ s₀ d e s i) where
@@ -79,18 +83,17 @@ module _ (cols : List (List Lit)) (counts : List ℕ) where
           let j : last - i - 1 ≡ last - (i + 1) = omega arith in
           let next : suc (last - i) - 1 ≡ suc (last - (i + 1)) = omega arith in
           let hi = columns-high in
-          let od = target-fits counts (last - i) i (s .x) (s .y) (s .carry .count) (s .vars) (omega arith) (m .live) in
+          let od = target-fits counts (last - i) i (s .x) (s .y) (s .carry) (s .vars) (omega arith) (m .live) in
           let z = m .level in
           let r : EqState = next-state (getD counts i 0) s u in
           let t : coming s i ≡ cs ++ coming r (i + 1) =
           made-step (last - i) i (s .x) (s .y) (s .carry) (s .vars) (omega arith) ∙ (λ k. cs ++ columns-clauses (j k) (i + 1) cols counts (r .x) (r .y) (r .carry) (r .vars)) in
-          let wk : carries-from (last - i) i counts (s .x) (s .y) (s .carry .count) (s .vars) ≡ carries-then (ordering (fresh n (s .vars))) (carries-from (last - (i + 1)) (i + 1) counts (r .x) (r .y) (r .carry .count) (r .vars)) =
-          carries-step counts (last - i) i (s .x) (s .y) (s .carry .count) (s .vars) (omega arith) od ∙ (λ k. carries-then (ordering (fresh n (s .vars))) (carries-from (j k) (i + 1) counts (r .x) (r .y) (r .carry .count) (r .vars))) in
+          let wk : carries-from (last - i) i counts (s .x) (s .y) (carry-in (s .carry) (s .vars)) ≡ carries-then (ordering (fresh n (s .vars))) (carries-from (last - (i + 1)) (i + 1) counts (r .x) (r .y) (carry-in (r .carry) (r .vars))) =
+          carries-step counts (last - i) i (s .x) (s .y) (s .carry) (s .vars) (omega arith) od ∙ (λ k. carries-then (ordering (fresh n (s .vars))) (carries-from (j k) (i + 1) counts (r .x) (r .y) (carry-in (r .carry) (r .vars)))) in
           record {
             within = omega arith;
             level =
                 record {
-                  live = refl;
                   x = omega (arith, z .x);
                   y = omega (arith, z .y);
                   vars = omega (arith, z .vars);
@@ -103,7 +106,7 @@ module _ (cols : List (List Lit)) (counts : List ℕ) where
             ends-long = en ∙ m .ends-long;
             fits = (λ k. tall-from counts (sym next k) (i + 1) (r .x) (r .y) (r .carry .count))
                 ∙ sym (fits-step counts (suc (last - i)) i (s .x) (s .y) (s .carry .count) (omega arith) hi od) ∙ m .fits;
-            live = sym (ap (λ (x : Carries). x .dead) wk) ∙ m .live;
+            live = sym (ap (λ (x : Carries). is-dead (x .last)) wk) ∙ m .live;
             same = m .same ∙ ap (λ (x : Clauses). add-clauses 0 x (after d e (s .used))) t ∙ add-append 0 cs (coming r (i + 1)) (after d e (s .used)) ∙ ap (add-clauses 0 (coming r (i + 1))) (sym (w .stores));
           }
 
@@ -119,12 +122,12 @@ module _ (cols : List (List Lit)) (counts : List ℕ) where
       columns-end h d′ e′ u w =
           w .stores ∙ sym (m .same ∙ ap (λ (x : Clauses). add-clauses 0 x (after d e (s .used))) (made-end (last - i) i (s .x) (s .y) (s .carry) (s .vars) (omega arith)))
 
-  pub columns-start : (d e : List ℕ) (g : EqInput) (a : Counts) → tall-from counts (suc (g .width - 1)) 0 (g .x) (g .y) 0 ≡ false → carries counts g .dead ≡ false
-      → EqInBounds (a .lits) (a .clauses) 0 (start-state g a) → ColumnsLeft (g .width - 1) d e (start-state g a) d e (start-state g a) 0
+  pub columns-start : (d e : List ℕ) (g : EqInput) (a : Counts) → tall-from counts (suc (g .width - 1)) 0 (g .x) (g .y) 0 ≡ false → is-dead (carries counts g .last) ≡ false
+      → EqInBounds (a .lits) (a .clauses) 0 (start-state g a 0) → ColumnsLeft (g .width - 1) d e (start-state g a 0) d e (start-state g a 0) 0
   columns-start d e g a f l z =
       record {
         within = omega arith;
-        level = record { live = z .live; x = z .x; y = z .y; vars = z .vars; carry = z .carry; few = z .few; lits = omega arith; clauses = omega arith };
+        level = record { x = z .x; y = z .y; vars = z .vars; carry = z .carry; few = z .few; lits = omega arith; clauses = omega arith };
         lits-long = refl;
         ends-long = refl;
         fits = rw (sub-zero (g .width - 1)) f;
@@ -132,84 +135,33 @@ module _ (cols : List (List Lit)) (counts : List ℕ) where
         same = rw (sub-zero (g .width - 1));
       }
 
--- The two passes are the definition ----------------------------------------------------------------------------------
+-- The returned set ---------------------------------------------------------------------------------------------------
 
-prepend-cond : (b : Bool) (cs ds : Clauses) → prepend cs (cond b none (some ds)) ≡ cond b none (some (cs ++ ds))
-prepend-cond true cs ds = refl
-prepend-cond false cs ds = refl
+module _ (cols : List (List Lit)) (counts : List ℕ) (g : EqInput) (fit : EqFits cols counts g)
+    (fits : tall-from counts (suc (g .width - 1)) 0 (g .x) (g .y) 0 ≡ false) (c : Column) (k : carry-of c ≡ carries counts g .last) where
+  abbrev columns· : Clauses
+  columns· = columns-clauses (g .width - 1) 0 cols counts (g .x) (g .y) no-vars (g .vars)
 
-abbrev output-with : Carries → Clauses → Adder2Output
-output-with s cs = record { sent = s .sent; returned = cond (s .dead) none (some cs); vars = s .vars }
+  returned : returned-set (eq-output cols counts g .returned) ≡ returned-set (cond (is-dead (carry-of c)) none (some columns·))
+  returned =
+      ap (λ (o : Adder2Output). returned-set (o .returned)) (passes-are cols counts (fit .wide) g (fit .width) fits)
+      ∙ ap (λ (l : Option NewCarry). returned-set (cond (is-dead l) none (some columns·))) (sym k)
 
-module _ (cols : List (List Lit)) (counts : List ℕ) (wide : (i : ℕ) → i < 32 → length (getD cols i []) ≡ 12) where
-  pub out-passes : (w i x y : ℕ) (p : VarRange) (v : ℕ) → i + w < 32 → tall-from counts (suc w) i x y (p .count) ≡ false
-      → output-at w i cols counts x y p v ≡ output-with (carries-from w i counts x y (p .count) v) (columns-clauses w i cols counts x y p v)
-  out-passes zero i x y p v h k = refl
-  out-passes (suc w) i x y p v h k =
-      go (leb ((x + y) % 2) (getD counts i 0 + p .count)) refl
-      (λ sh. out-passes w (i + 1) ((x + 1) / 2) (y / 2) (record { first = record { 0 = v }; count = (getD counts i 0 + p .count - (x + y) % 2) / 2 }) (v + (getD counts i 0 + p .count - (x + y) % 2) / 2) (omega arith) sh)
-    where
-      hi : getD counts i 0 + p .count ≤ 12
-      hi = column-fits counts (suc (suc w)) i x y (p .count) (omega arith) k
+  -- of a dead end, one empty clause
+  pub returned-dead : c ≡ Dead → [] ∷ [] ≡ returned-set (eq-output cols counts g .returned)
+  returned-dead e = sym (returned ∙ ap (λ (q : Column). returned-set (cond (is-dead (carry-of q)) none (some columns·))) e)
 
-      own : length (own-at cols counts i) ≡ getD counts i 0
-      own = let l : length (getD cols i []) ≡ 12 = wide i (omega arith) in let z = hi in rw (length-map, length-take) (omega arith)
-
-      carry : length (range-lits p) ≡ p .count
-      carry = length-fresh (p .count) (p .first .0)
-
-      go : (t : Bool) → leb ((x + y) % 2) (getD counts i 0 + p .count) ≡ t
-          → (let n = (getD counts i 0 + p .count - (x + y) % 2) / 2 in let q : VarRange = record { first = record { 0 = v }; count = n } in
-          tall-from counts (suc w) (i + 1) ((x + 1) / 2) (y / 2) n ≡ false → output-at w (i + 1) cols counts ((x + 1) / 2) (y / 2) q (v + n) ≡ output-with (carries-from w (i + 1) counts ((x + 1) / 2) (y / 2) n (v + n)) (columns-clauses w (i + 1) cols counts ((x + 1) / 2) (y / 2) q (v + n)))
-          → output-at (suc w) i cols counts x y p v ≡ output-with (carries-from (suc w) i counts x y (p .count) v) (columns-clauses (suc w) i cols counts x y p v)
-      go true e more =
-          let n : ℕ = (getD counts i 0 + p .count - (x + y) % 2) / 2 in
-          let sh : tall-from counts (suc w) (i + 1) ((x + 1) / 2) (y / 2) n ≡ false =
-          rw (sub-one (suc (suc w))) at (sym (fits-step counts (suc (suc w)) i x y (p .count) (omega arith) hi (leb-true ((x + y) % 2) (getD counts i 0 + p .count) e)) ∙ k) in
-          rw (own, carry, e, length-fresh n v, more sh, prepend-cond)
-      go false e more = rw (own, carry, e)
-
--- Both passes --------------------------------------------------------------------------------------------------------
-
-module _ (cols : List (List Lit)) (counts : List ℕ) (g : EqInput) (a : Counts) (fit : EqFits cols counts g)
-    (fits : tall-from counts (suc (g .width - 1)) 0 (g .x) (g .y) 0 ≡ false) {d e d₁ e₁ : List ℕ} {s : EqState} (o : CarriesOrdered d e counts g a d₁ e₁ s) where
-  abbrev W· : Carries
-  W· = carries counts g
-
-  abbrev M· : Clauses
-  M· = columns-clauses (g .width - 1) 0 cols counts (g .x) (g .y) no-vars (g .vars)
-
-  passes : eq-output cols counts g ≡ output-with W· M·
-  passes = out-passes cols counts (fit .wide) (g .width - 1) 0 (g .x) (g .y) no-vars (g .vars) (omega (arith, fit .width)) fits
-
-  -- all the clauses, if it is known whether there is a dead end
-  all : (b : Bool) → W· .dead ≡ b
-      → add-clauses 0 (adder2-clauses (eq-output cols counts g)) (after d e a) ≡ add-clauses 0 (W· .sent ++ returned-set (cond b none (some M·))) (after d e a)
-  all b w =
-      ap (λ (x : Adder2Output). add-clauses 0 (adder2-clauses x) (after d e a)) passes
-      ∙ ap (λ (b : Bool). add-clauses 0 (W· .sent ++ returned-set (cond b none (some M·))) (after d e a)) w
-
-  pub added-dead : s .dead ≡ true → EqAdded d e cols counts g a d₁ e₁ s
-  added-dead l =
-      record {
-        stores = o .stores ∙ ap (λ (b : Bool). add-clauses 0 (W· .sent ++ cond b ([] ∷ []) []) (after d e a)) l ∙ sym (all true (sym (o .dead) ∙ l));
-        vars = o .vars ∙ sym (ap (λ (x : Adder2Output). x .vars) passes);
-      }
-
-  pub added-live : s .dead ≡ false → (d₂ e₂ : List ℕ) (r : EqState) → r .vars ≡ s .vars
-      → after d₂ e₂ (r .used) ≡ add-clauses 0 M· (after d₁ e₁ (s .used)) → EqAdded d e cols counts g a d₂ e₂ r
-  added-live l d₂ e₂ r v k =
-      let first : after d₁ e₁ (s .used) ≡ add-clauses 0 (W· .sent) (after d e a) =
-      o .stores ∙ ap (λ (b : Bool). add-clauses 0 (W· .sent ++ cond b ([] ∷ []) []) (after d e a)) l ∙ ap (λ (cs : Clauses). add-clauses 0 cs (after d e a)) (append-nil (W· .sent)) in
-      record {
-        stores = k ∙ ap (add-clauses 0 M·) first ∙ sym (add-append 0 (W· .sent) M· (after d e a)) ∙ sym (all false (sym (o .dead) ∙ l));
-        vars = v ∙ o .vars ∙ sym (ap (λ (x : Adder2Output). x .vars) passes);
-      }
+  -- else the columns' clauses
+  pub returned-columns : (first : Var) (n : ℕ) → c ≡ Carry first n → (is-dead (carries counts g .last) ≡ false) × (columns· ≡ returned-set (eq-output cols counts g .returned))
+  returned-columns first n e = (
+    ap is-dead (sym k) ∙ ap (λ (q : Column). is-dead (carry-of q)) e,
+    sym (returned ∙ ap (λ (q : Column). returned-set (cond (is-dead (carry-of q)) none (some columns·))) e),
+  )
 
 -- Counting -----------------------------------------------------------------------------------------------------------
 
 -- lent nothing, the adder counts
-pub eq-counted : {d e : List ℕ} (cols : List (List Lit)) (counts : List ℕ) (g : EqInput) (a : Counts) {d′ e′ : List ℕ} (r : EqState)
+pub eq-counted : {d e : List ℕ} (cols : List (List Lit)) (counts : List ℕ) (g : EqInput) (a : Counts) {d′ e′ : List ℕ} (r : EqCounts)
     → EqAdded d e cols counts g a d′ e′ r → EqCounted cols counts g a r
 eq-counted {d} {e} cols counts g a r w =
     let cs : Clauses = adder2-clauses (eq-output cols counts g) in

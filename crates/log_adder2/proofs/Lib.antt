@@ -1,5 +1,6 @@
 pub mod Halves
 pub mod Ordering
 pub mod EqHeights
+pub mod Passes
 pub mod OrderingPass
 pub mod ColumnsPass

@@ -1,17 +1,18 @@
 // The adder of Eq, after `log_encoding_adder2` of log.rs. A call that is lent no entries only counts.
 ghost use mathlib.Core.Path.{_≡_};
-ghost use mathlib.Core.Bool.{false, not, true};
-ghost use mathlib.Core.List.{[], _∷_, map};
+ghost use mathlib.Core.Bool.{false, not};
+ghost use mathlib.Core.List.{[]};
 ghost use lib.ListN.{take};
 ghost use Prim.Native.Nat.{_+_, _-_, _*_, _/_, _^_, _≤_, _<_};
 ghost use Rattle.sat.specs.Fresh.{fresh};
-ghost use Rattle.sat.specs.LitArray.{first-lits, num};
+ghost use Rattle.sat.specs.LitArray.{first-lits};
 ghost use Rattle.clause_set.specs.Stores.{add-clauses, after, stores};
 ghost use Rattle.log_adder.specs.AdderState.{CountsLow};
-ghost use Rattle.log_adder.specs.Adder2.{column-answer, eq-column, ordering};
+ghost use Rattle.log_adder.specs.Adder2.{column-answer, eq-column, ordering, returned-set};
 ghost use Rattle.log_adder.specs.ColumnInfo.{ColumnSized, range-lits};
 ghost use Rattle.log_adder.specs.Size.{eq-reached, too-tall};
-ghost use Rattle.log_adder2.specs.EqState.{CarriesOrdered, EqAdded, EqColumnReady, EqCounted, EqFits, Wrote, carries, carry-of, columns-clauses, eq-carry-count, eq-column-clauses, next-state, no-vars, target-bit};
+ghost use Rattle.log_adder2.specs.EqState.{CarriesOrdered, EqAdded, EqColumnReady, EqCounted, EqFits, Wrote, carries, carry-of, columns-clauses, eq-carry-count, eq-column-clauses, eq-output, is-dead, next-state, no-vars, target-bit};
+ghost use Rattle.log_adder2.specs.declared.Column.the-variants.{Carry};
 use clause_set::Clause;
 use clause_set::Counts;
 use log_adder::ColumnInfo;
@@ -33,14 +34,26 @@ pub struct EqInput {
     pub vars: u32,
 }
 
-// The state between two columns, or at a dead end.
+// The state between two columns.
 pub struct EqState {
     pub x: u32,
     pub y: u32,
     pub vars: u32,
     pub carry: VarRange,
     pub used: Counts,
-    pub dead: bool,
+}
+
+// After the first pass: the variables counted, the counts, and the carry into the last column or the dead end before it.
+pub struct EqCarries {
+    pub vars: u32,
+    pub used: Counts,
+    pub carry: Column,
+}
+
+// After both passes: the variables counted, the counts.
+pub struct EqCounts {
+    pub vars: u32,
+    pub used: Counts,
 }
 
 // The carry of a column but the last.
@@ -120,22 +133,10 @@ fn push_eq_column(
     )
 }
 
-// A dead end: the empty clause.
-fn dead_end(lits: &mut [u32], ends: &mut [u32], s: EqState) -> EqState
-    requires { ⌜ (s .used .lits < 2 ^ 31) × (s .used .clauses < 2 ^ 31) ⌝ }
-    ensures { λ r. ⌜ (r .dead ≡ true) × (r .vars ≡ s .vars) × (after (now (lits .exit)) (now (ends .exit)) (r .used) ≡ add-clauses 0 ([] ∷ []) (after (now (lits .entry)) (now (ends .entry)) (s .used))) ⌝ }
-{
-    let mut r = s;
-    let wrote = clause_set::push(lits, ends, Clause::empty(), 0, s.used);
-    r.used = wrote;
-    r.dead = true;
-    r
-}
-
 // The ordering clauses of a column's carry, and the state after it.
 fn order_next(lits: &mut [u32], ends: &mut [u32], s: EqState, first: Var, n: u32) -> EqState
     requires { ⌜ (first .0 + n < 2 ^ 30) × (n ≤ 6) × (s .used .lits < 2 ^ 30 + 1000) × (s .used .clauses < 2 ^ 30 + 1000) × (s .x < 2 ^ 31) ⌝ }
-    ensures { λ r. ⌜ (r ≡ record { x = (s .x + 1) / 2; y = s .y / 2; vars = first .0 + n; carry = record { first = first; count = n }; used = r .used; dead = false }) × (after (now (lits .exit)) (now (ends .exit)) (r .used) ≡ add-clauses 0 (ordering (fresh n (first .0))) (after (now (lits .entry)) (now (ends .entry)) (s .used))) ⌝ }
+    ensures { λ r. ⌜ (r ≡ record { x = (s .x + 1) / 2; y = s .y / 2; vars = first .0 + n; carry = record { first = first; count = n }; used = r .used }) × (after (now (lits .exit)) (now (ends .exit)) (r .used) ≡ add-clauses 0 (ordering (fresh n (first .0))) (after (now (lits .entry)) (now (ends .entry)) (s .used))) ⌝ }
 {
     let used = push_ordering(lits, ends, first, n, s.used);
     EqState {
@@ -144,7 +145,6 @@ fn order_next(lits: &mut [u32], ends: &mut [u32], s: EqState, first: Var, n: u32
         vars: first.0 + n,
         carry: VarRange { first, count: n },
         used,
-        dead: false,
     }
 }
 
@@ -174,14 +174,28 @@ pub fn eq_heights_fit(counts: [u32; 32], width: usize, x: u32, y: u32) -> bool
     true
 }
 
+// What the first pass answers where no column was a dead end.
+fn carried(s: EqState) -> EqCarries
+    ensures { λ r. ⌜ r ≡ record { vars = s .vars; used = s .used; carry = Carry (s .carry .first) (s .carry .count) } ⌝ }
+{
+    let carry = s.carry;
+    let first = carry.first;
+    let used = s.used;
+    EqCarries {
+        vars: s.vars,
+        used,
+        carry: Column::Carry(first, carry.count),
+    }
+}
+
 // The first pass: the ordering clauses of the carries, up to a dead end.
-fn order_carries(
+pub fn order_carries(
     lits: &mut [u32],
     ends: &mut [u32],
     counts: [u32; 32],
     g: EqInput,
     at: Counts,
-) -> EqState
+) -> EqCarries
     requires { ⌜ (1 ≤ g .width) × (g .width ≤ 26) × (g .x ≤ 1073741824) × (g .y ≤ 1073741824) × (g .vars ≤ 1048576) ⌝ }
     requires { ⌜ (at .lits ≤ 1073741824) × (at .clauses ≤ 1073741824) ⌝ }
     requires { ⌜ too-tall (eq-reached (take (g .width) counts) (g .x) (g .y) 0) ≡ false ⌝ }
@@ -193,11 +207,10 @@ fn order_carries(
         y: g.y,
         vars: g.vars,
         carry: VarRange {
-            first: Var(0),
+            first: Var(g.vars),
             count: 0,
         },
         used: at,
-        dead: false,
     };
     let mut i: usize = 0;
     while i < last {
@@ -205,12 +218,17 @@ fn order_carries(
         let height = counts[i] + carry.count;
         let odd = (s.x + s.y) % 2;
         let Column::Carry(first, n) = next_carry(height, odd, s.vars) else {
-            return dead_end(lits, ends, s);
+            let used = s.used;
+            return EqCarries {
+                vars: s.vars,
+                used,
+                carry: Column::Dead,
+            };
         };
         s = order_next(lits, ends, s, first, n);
         i += 1;
     }
-    s
+    carried(s)
 }
 
 // A column's clauses, written into the free tails of the stores.
@@ -276,7 +294,6 @@ fn add_next_column(
         vars: s.vars + n,
         carry: next,
         used,
-        dead: false,
     }
 }
 
@@ -306,7 +323,7 @@ fn add_last_column(
     add_eq_column(lits, ends, info, s.x, s.y, s.used)
 }
 
-// The second pass: the columns' clauses.
+// The columns' clauses, where no column is a dead end.
 fn add_eq_columns(
     lits: &mut [u32],
     ends: &mut [u32],
@@ -317,7 +334,7 @@ fn add_eq_columns(
 ) -> Counts
     requires { ⌜ EqFits cols counts g ⌝ }
     requires { ⌜ too-tall (eq-reached (take (g .width) counts) (g .x) (g .y) 0) ≡ false ⌝ }
-    requires { ⌜ carries counts g .dead ≡ false ⌝ }
+    requires { ⌜ is-dead (carries counts g .last) ≡ false ⌝ }
     requires { ⌜ (at .lits ≤ 1073742136) × (at .clauses ≤ 1073741981) ⌝ }
     ensures { λ r. ⌜ after (now (lits .exit)) (now (ends .exit)) r ≡ add-clauses 0 (columns-clauses (g .width - 1) 0 cols counts (g .x) (g .y) no-vars (g .vars)) (after (now (lits .entry)) (now (ends .entry)) at) ⌝ }
 {
@@ -331,7 +348,6 @@ fn add_eq_columns(
             count: 0,
         },
         used: at,
-        dead: false,
     };
     let mut i: usize = 0;
     while i < last {
@@ -343,6 +359,28 @@ fn add_eq_columns(
     add_last_column(lits, ends, own, counts[last], s)
 }
 
+// The second pass: the returned set, which is the columns' clauses, or the empty clause of a dead end.
+pub fn push_returned_set(
+    lits: &mut [u32],
+    ends: &mut [u32],
+    cols: [[Lit; 12]; 32],
+    counts: [u32; 32],
+    g: EqInput,
+    carry: Column,
+    at: Counts,
+) -> Counts
+    requires { ⌜ EqFits cols counts g ⌝ }
+    requires { ⌜ too-tall (eq-reached (take (g .width) counts) (g .x) (g .y) 0) ≡ false ⌝ }
+    requires { ⌜ carry-of carry ≡ carries counts g .last ⌝ }
+    requires { ⌜ (at .lits ≤ 1073742136) × (at .clauses ≤ 1073741981) ⌝ }
+    ensures { λ r. ⌜ after (now (lits .exit)) (now (ends .exit)) r ≡ add-clauses 0 (returned-set (eq-output cols counts g .returned)) (after (now (lits .entry)) (now (ends .entry)) at) ⌝ }
+{
+    let Column::Carry(_, _) = carry else {
+        return clause_set::push(lits, ends, Clause::empty(), 0, at);
+    };
+    add_eq_columns(lits, ends, cols, counts, g, at)
+}
+
 // The adder of Eq: all its clauses, the ordering clauses first; a dead end writes the empty clause in place of the columns'.
 pub fn log_encoding_adder2(
     lits: &mut [u32],
@@ -351,20 +389,16 @@ pub fn log_encoding_adder2(
     counts: [u32; 32],
     g: EqInput,
     at: Counts,
-) -> EqState
+) -> EqCounts
     requires { ⌜ EqFits cols counts g ⌝ }
     requires { ⌜ too-tall (eq-reached (take (g .width) counts) (g .x) (g .y) 0) ≡ false ⌝ }
     requires { ⌜ (at .lits ≤ 1073741824) × (at .clauses ≤ 1073741824) ⌝ }
     ensures { λ r. ⌜ EqAdded (now (lits .entry)) (now (ends .entry)) cols counts g at (now (lits .exit)) (now (ends .exit)) r ⌝ }
 {
     let s = order_carries(lits, ends, counts, g, at);
-    if s.dead {
-        return s;
-    }
-    let used = add_eq_columns(lits, ends, cols, counts, g, s.used);
-    let mut r = s;
-    r.used = used;
-    r
+    let carry = s.carry;
+    let used = push_returned_set(lits, ends, cols, counts, g, carry, s.used);
+    EqCounts { vars: s.vars, used }
 }
 
 // The same counted: nothing is lent, so nothing is written.
@@ -375,7 +409,7 @@ pub fn count_adder2(
     counts: [u32; 32],
     g: EqInput,
     at: Counts,
-) -> EqState
+) -> EqCounts
     requires { ⌜ EqFits cols counts g ⌝ }
     requires { ⌜ too-tall (eq-reached (take (g .width) counts) (g .x) (g .y) 0) ≡ false ⌝ }
     requires { ⌜ (at .lits ≤ 1073741824) × (at .clauses ≤ 1073741824) ⌝ }

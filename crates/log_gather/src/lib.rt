@@ -30,7 +30,7 @@ fn push_lit(cols: [[Lit; 12]; 32], counts: &mut [u32; 32], w: usize, l: Lit) -> 
 }
 
 // Literal j of the first n at the end of column o + j.
-fn push_value(
+pub fn push_value(
     cols: [[Lit; 12]; 32],
     counts: &mut [u32; 32],
     lits: [Lit; 32],

@@ -51,7 +51,7 @@ fn add_one(lits: &mut [u32], ends: &mut [u32], a: Lit, at: Counts) -> Counts
 }
 
 // A clause of two literals.
-fn add_two(lits: &mut [u32], ends: &mut [u32], a: Lit, b: Lit, at: Counts) -> Counts
+pub fn add_two(lits: &mut [u32], ends: &mut [u32], a: Lit, b: Lit, at: Counts) -> Counts
     requires { ⌜ (at .lits < 2 ^ 31) × (at .clauses < 2 ^ 31) ⌝ }
     ensures { λ r. ⌜ Added (now (lits .entry)) (now (ends .entry)) at ((a .0 ∷ b .0 ∷ []) ∷ []) (now (lits .exit)) (now (ends .exit)) r ⌝ }
 {
@@ -60,7 +60,7 @@ fn add_two(lits: &mut [u32], ends: &mut [u32], a: Lit, b: Lit, at: Counts) -> Co
 }
 
 // A clause of three literals.
-fn add_three(lits: &mut [u32], ends: &mut [u32], a: Lit, b: Lit, c: Lit, at: Counts) -> Counts
+pub fn add_three(lits: &mut [u32], ends: &mut [u32], a: Lit, b: Lit, c: Lit, at: Counts) -> Counts
     requires { ⌜ (at .lits < 2 ^ 31) × (at .clauses < 2 ^ 31) ⌝ }
     ensures { λ r. ⌜ Added (now (lits .entry)) (now (ends .entry)) at ((a .0 ∷ b .0 ∷ c .0 ∷ []) ∷ []) (now (lits .exit)) (now (ends .exit)) r ⌝ }
 {
@@ -231,7 +231,7 @@ pub fn push_ne(
 }
 
 // Clauses against the bits from the given place on.
-fn none_of(lits: &mut [u32], ends: &mut [u32], b: Bits, from: usize, at: Counts) -> Counts
+pub fn none_of(lits: &mut [u32], ends: &mut [u32], b: Bits, from: usize, at: Counts) -> Counts
     requires { ⌜ (b .len ≤ 32) × (at .lits < 2 ^ 31 - 32) × (at .clauses < 2 ^ 31 - 32) ⌝ }
     ensures { λ r. ⌜ Added (now (lits .entry)) (now (ends .entry)) at (none-of (drop from (bits-of b))) (now (lits .exit)) (now (ends .exit)) r ⌝ }
 {

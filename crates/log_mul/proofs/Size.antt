@@ -27,7 +27,7 @@ use Rattle.log_mul.specs.EncodeMulLog.{encode-mul, encode-mul-log, mul-c
 use Rattle.log_mul.specs.Multiply.{multiplier, product, row, rows, rows-grid, rows-vars}
 use Rattle.log_mul.specs.Size.{mul-count, mul-size, mul-vars, multiplier-count, multiplier-reached, multiplier-vars, no-offsets, offset-shapes, offsets-count, offsets-vars, product-count, rows-counts}
 
-rows-grid-counts : (xs ys : List ℕ) (o v : ℕ) (grid : Grid)
+pub rows-grid-counts : (xs ys : List ℕ) (o v : ℕ) (grid : Grid)
     → own-counts (rows-grid xs ys o v grid) ≡ rows-counts (length xs) (length ys) o (own-counts grid)
 rows-grid-counts [] ys o v grid = refl
 rows-grid-counts (x ∷ xs) ys o v grid =
@@ -35,15 +35,20 @@ rows-grid-counts (x ∷ xs) ys o v grid =
     ∙ ap (rows-counts (length xs) (length ys) (suc o))
     (push-value-counts o (fresh (length ys) v) grid ∙ ap (λ n. push-counts o n (own-counts grid)) (length-fresh (length ys) v))
 
-rows-vars-are : (xs ys : List ℕ) (v : ℕ) → rows-vars xs ys v ≡ v + length xs * length ys
+pub rows-vars-are : (xs ys : List ℕ) (v : ℕ) → rows-vars xs ys v ≡ v + length xs * length ys
 rows-vars-are [] ys v = omega arith
 rows-vars-are (x ∷ xs) ys v = omega (arith, rows-vars-are xs ys (v + length ys))
 
+-- the terms of a product with offsets, as shapes
+pub offset-shapes-are : (x y m : LogEncoding) (bits : List ℕ) → length bits ≡ length (multiplier-reached (length (x .lits)) (length (y .lits)) 0)
+    → map shape-of (offset-terms x y m bits) ≡ offset-shapes (setting-shape x) (setting-shape y) (setting-shape m)
+offset-shapes-are x y m bits e = rw (shape-of-weighted (y .offset) (x .lits), shape-of-weighted (x .offset) (y .lits), e) refl
+
 -- what a multiplier from v on makes, of x bits by y bits, with r of the product's bits given
-record MultiplierSize (weigh : ℕ → ℕ) (v : ℕ) (out : EncodedBits) (x y r : ℕ) : Type 0 where
-  clauses-are : weight-of weigh (out .clauses) ≡ multiplier-count weigh x y r
-  bits-are : length (out .bits) ≡ length (multiplier-reached x y r)
-  vars-are : out .vars ≡ v + multiplier-vars x y r
+pub record MultiplierSize (weigh : ℕ → ℕ) (v : ℕ) (out : EncodedBits) (x y r : ℕ) : Type 0 where
+  pub clauses-are : weight-of weigh (out .clauses) ≡ multiplier-count weigh x y r
+  pub bits-are : length (out .bits) ≡ length (multiplier-reached x y r)
+  pub vars-are : out .vars ≡ v + multiplier-vars x y r
 
 module _ (weigh : ℕ → ℕ) where
   row-count : (x : ℕ) (ys : List ℕ) (v : ℕ) → weight-of weigh (row x ys v) ≡ length ys * (2 * weigh 2 + weigh 3)
@@ -55,7 +60,7 @@ module _ (weigh : ℕ → ℕ) where
   rows-count (x ∷ xs) ys v =
       omega (arith, weight-append weigh (row x ys v) (rows xs ys (v + length ys)), row-count x ys v, rows-count xs ys (v + length ys))
 
-  multiplier-size : (xs ys given : List ℕ) (v : ℕ) → MultiplierSize weigh v (multiplier xs ys given v) (length xs) (length ys) (length given)
+  pub multiplier-size : (xs ys given : List ℕ) (v : ℕ) → MultiplierSize weigh v (multiplier xs ys given v) (length xs) (length ys) (length given)
   multiplier-size xs ys given v =
       let cols = pad-columns (length given) (rows-grid xs ys 0 v []) in
       let w = rows-vars xs ys v in
@@ -96,9 +101,9 @@ module _ (weigh : ℕ → ℕ) where
         let mul = multiplier (x .lits) (y .lits) [] v in
         let terms = offset-terms x y m (mul .bits) in
         let out = linear-eq terms (up k) (down k) (mul .vars) in
-        let m = multiplier-size (x .lits) (y .lits) [] v in
+        let size = multiplier-size (x .lits) (y .lits) [] v in
         let e = subst (λ ss. EqSize weigh (mul .vars) out (gather-counts ss []) (sum-plus ss (up k) (down k)) (sum-target ss (up k) (down k)))
-        (shapes-are (mul .bits) (m .bits-are)) (linear-eq-size weigh terms (up k) (down k) (mul .vars)) in
+        (offset-shapes-are x y m (mul .bits) (size .bits-are)) (linear-eq-size weigh terms (up k) (down k) (mul .vars)) in
         record {
           clauses-are = omega (
             arith,
@@ -106,14 +111,10 @@ module _ (weigh : ℕ → ℕ) where
             weight-append weigh (mul .clauses) (out .returned),
             e .sent-are,
             e .returned-are,
-            m .clauses-are,
+            size .clauses-are,
           );
-          vars-are = omega (arith, e .vars-are, m .vars-are);
+          vars-are = omega (arith, e .vars-are, size .vars-are);
         }
-      where
-        shapes-are : (bits : List ℕ) → length bits ≡ length (multiplier-reached (length (x .lits)) (length (y .lits)) 0)
-            → map shape-of (offset-terms x y m bits) ≡ ss
-        shapes-are bits e = rw (shape-of-weighted (y .offset) (x .lits), shape-of-weighted (x .offset) (y .lits), e) refl
 
     rule-size : RuleSize weigh v (encode-mul x y m v)
         (mul-count weigh (setting-shape x) (setting-shape y) (setting-shape m))

@@ -1,3 +1,5 @@
 pub mod Multiply
 pub mod EncodeMulLog
 pub mod Size
+pub mod Added
+pub mod Bits

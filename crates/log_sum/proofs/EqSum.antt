@@ -15,7 +15,7 @@ use Rattle.log_adder.specs.Gather.{Grid}
 use Rattle.log_adder.specs.Size.{eq-reached, too-tall}
 use Rattle.log_adder2.specs.EqState.{EqAdded, EqFits}
 use Rattle.log_adder2.specs.declared.EqInput.{EqInput}
-use Rattle.log_adder2.specs.declared.EqState.{EqState}
+use Rattle.log_adder2.specs.declared.EqCounts.{EqCounts}
 use Rattle.log_linear.specs.Added.{add-rule, rule-outcome}
 use Rattle.log_linear.specs.EncodeLinearLog.{eq-rule}
 use Rattle.log_linear.specs.Linear.{Weighted, gather, linear-eq, negated-constant}
@@ -66,7 +66,7 @@ module _ (ws : List Weighted) {cols : List (List Lit)} {counts : List ℕ} (g : 
     eq-ready low lower small =
         record { some = some; width = omega arith; x = low; y = lower; vars = small; own = g .arrays .low; wide = g .arrays .wide }
 
-    pub eq-added : {d e d′ e′ : List ℕ} (c : Counts) (r : EqState) → EqAdded d e cols counts input c d′ e′ r
+    pub eq-added : {d e d′ e′ : List ℕ} (c : Counts) (r : EqCounts) → EqAdded d e cols counts input c d′ e′ r
         → rule-outcome d′ e′ (record { vars = r .vars; used = r .used }) ≡ add-rule (eq-rule (linear-eq ws a b v)) (after d e c)
     eq-added {d} {e} {d′} {e′} c r h =
         let out = eq-output-is g input wide some few (eq-tall ∙ fits) in

@@ -187,14 +187,14 @@ fn weighted_ge(
 }
 
 // By how much a exceeds b.
-fn excess(a: u32, b: u32) -> u32
+pub fn excess(a: u32, b: u32) -> u32
     ensures { λ r. ⌜ r ≡ a - b ⌝ }
 {
     if b <= a { a - b } else { 0 }
 }
 
 // Eq: what the columns and the constant a have to reach, with the constant b.
-fn eq_target(ts: [Weighted; 7], n: usize, b: u32) -> u32
+pub fn eq_target(ts: [Weighted; 7], n: usize, b: u32) -> u32
     requires { ⌜ TermsFit 12 ts n ⌝ }
     requires { ⌜ b < 33554432 ⌝ }
     ensures { λ r. ⌜ (r ≡ b + negated-constant (weighted-all ts n)) × (r ≤ 301989888) ⌝ }
@@ -216,7 +216,7 @@ fn eq_fits(ts: [Weighted; 7], n: usize, steps: usize, a: u32, b: u32) -> bool
 }
 
 // Eq without columns: an empty clause, unless x is y.
-fn eq_constants(
+pub fn eq_constants(
     lits: &mut [u32],
     ends: &mut [u32],
     x: u32,
@@ -267,7 +267,7 @@ fn weighted_eq(
 }
 
 // The part of a number above 0.
-fn up(z: i32) -> u32
+pub fn up(z: i32) -> u32
     requires { ⌜ up z < 33554432 ⌝ }
     ensures { λ r. ⌜ r ≡ up z ⌝ }
 {
@@ -278,7 +278,7 @@ fn up(z: i32) -> u32
 }
 
 // The part of a number below 0.
-fn down(z: i32) -> u32
+pub fn down(z: i32) -> u32
     requires { ⌜ down z < 33554432 ⌝ }
     ensures { λ r. ⌜ r ≡ down z ⌝ }
 {
@@ -334,7 +334,7 @@ pub fn encode_weighted(
 }
 
 // How far a number is from 0.
-fn magnitude(z: i32) -> u32
+pub fn magnitude(z: i32) -> u32
     requires { ⌜ (up z < 33554432) × (down z < 33554432) ⌝ }
     ensures { λ r. ⌜ r ≡ up z + down z ⌝ }
 {
@@ -345,7 +345,7 @@ fn magnitude(z: i32) -> u32
 }
 
 // Up to twelve literals in the places of a term.
-fn term_lits(lits: [Lit; 12], n: usize) -> [Lit; 32]
+pub fn term_lits(lits: [Lit; 12], n: usize) -> [Lit; 32]
     requires { ⌜ (n ≤ 12) × FirstSmall n lits ⌝ }
     ensures { λ r. ⌜ (first-lits r n ≡ first-lits lits n) × (length r ≡ 32) × AllSmall r ⌝ }
 {

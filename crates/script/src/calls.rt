@@ -2,6 +2,8 @@
 ghost use mathlib.Core.Path.{_≡_};
 ghost use lib.ListN.{length, replicate};
 use encoder::Answer;
+use encoder::products::encode_mul;
+use encoder::sums::encode_linear;
 use encoder_env::EncoderEnv;
 use lines::Word;
 use sat::Lit;
@@ -96,6 +98,45 @@ fn binary(nums: &[i64], env: EncoderEnv, lits: &mut [u32], ends: &mut [u32]) -> 
     answered(encoder::encode_binary(env, lits, ends, Lit(c), f, t))
 }
 
+// `linear OP CONSTANT [SETTING COEFFICIENT]..`: what follows the constant is one list, which may lack its last coefficient.
+fn linear(nums: &[i64], env: EncoderEnv, lits: &mut [u32], ends: &mut [u32]) -> Next {
+    if nums.len() < 2 {
+        return bad(env);
+    }
+    let m = nums.len() - 2;
+    if m > 4096 {
+        return bad(env);
+    }
+    let Unsigned::Value(op) = lines::unsigned_at(nums, 0) else {
+        return bad(env);
+    };
+    let Signed::Value(constant) = lines::signed_at(nums, 1) else {
+        return bad(env);
+    };
+    let mut terms = [0i32; 4096];
+    if !lines::signed_list(&nums[2..], &mut terms) {
+        return bad(env);
+    }
+    answered(encode_linear(env, lits, ends, op, constant, &terms[..m]))
+}
+
+// `mul X Y M`
+fn mul(nums: &[i64], env: EncoderEnv, lits: &mut [u32], ends: &mut [u32]) -> Next {
+    if nums.len() != 3 {
+        return bad(env);
+    }
+    let Unsigned::Value(x) = lines::unsigned_at(nums, 0) else {
+        return bad(env);
+    };
+    let Unsigned::Value(y) = lines::unsigned_at(nums, 1) else {
+        return bad(env);
+    };
+    let Unsigned::Value(m) = lines::unsigned_at(nums, 2) else {
+        return bad(env);
+    };
+    answered(encode_mul(env, lits, ends, x, y, m))
+}
+
 // `read SETTING BYTE..`
 fn read(nums: &[i64], env: EncoderEnv, lits: &[u32], ends: &[u32]) -> Next {
     if nums.len() == 0 {
@@ -175,7 +216,7 @@ fn show(nums: &[i64], env: EncoderEnv, lits: &[u32], ends: &[u32]) -> Next {
     good(env)
 }
 
-// A word that adds a setting. `linear` and `mul` stand here as soon as their calls do.
+// A word that adds a setting or a rule.
 fn encode(word: Word, nums: &[i64], env: EncoderEnv, lits: &mut [u32], ends: &mut [u32]) -> Next {
     if lines::is_word(word, b"range") {
         return range(nums, env, lits, ends);
@@ -185,6 +226,12 @@ fn encode(word: Word, nums: &[i64], env: EncoderEnv, lits: &mut [u32], ends: &mu
     }
     if lines::is_word(word, b"binary") {
         return binary(nums, env, lits, ends);
+    }
+    if lines::is_word(word, b"linear") {
+        return linear(nums, env, lits, ends);
+    }
+    if lines::is_word(word, b"mul") {
+        return mul(nums, env, lits, ends);
     }
     bad(env)
 }

@@ -1,6 +1,7 @@
 // The run of a script of calls, answered line by line. A line is a word and decimal integers, each behind one space:
 //   stores L E              lends fresh stores of L literal entries and E ends, all 0
-//   open N | range LOW HIGH | list V.. | binary C F T | read SETTING BYTE.. | clause K
+//   open N | range LOW HIGH | list V.. | binary C F T | linear OP CONSTANT [SETTING COEFFICIENT].. | mul X Y M
+//   read SETTING BYTE.. | clause K
 //   job ..                  replaces the job: its counts, then of each record 12 literals, length, low, high and offset
 //   lits I X | ends I X     puts X at entry I of a store
 //   show                    prints the job and the lent stores

@@ -1,5 +1,5 @@
 -- `log_adder2::add_eq_columns` meets its contract.
-use mathlib.Core.Path.{_≡_, refl, _∙_}
+use mathlib.Core.Path.{_≡_, _∙_}
 use Prim.Native.Nat.{_-_}
 use native.Mathlib.Omega.{arith}
 use lib.ListN.{length}
@@ -27,7 +27,7 @@ loop-holds c =
     columns-start (s .args .t3) (s .args .t4) (s .args .lits .now) (s .args .ends .now) (s .args .g) (s .args .at)
     (all-fit (s .args .t4) (s .args .g .width) (s .args .g .x) (s .args .g .y) (s .pre .0 .some) (omega (arith, counts-long s, s .pre .0 .width)) (s .pre .1 .0))
     (s .pre .1 .1 .0)
-    (record { live = refl; x = s .pre .0 .x; y = s .pre .0 .y; vars = omega (arith, s .pre .0 .vars); carry = omega arith; few = omega arith; lits = omega arith; clauses = omega arith })
+    (record { x = s .pre .0 .x; y = s .pre .0 .y; vars = omega (arith, s .pre .0 .vars); carry = omega arith; few = omega arith; lits = omega arith; clauses = omega arith })
 
 mul-own : tie.Need-mul-own Inv-loop μ-loop
 mul-own c = search needs
@@ -56,7 +56,7 @@ add-next-column-requires c κs =
         lits = omega (arith, l .inv .level .lits, l .inv .within, s .pre .0 .width, s .pre .1 .1 .1);
         clauses = omega (arith, l .inv .level .clauses, l .inv .within, s .pre .0 .width, s .pre .1 .1 .1);
       },
-      target-fits (s .args .t4) (s .args .g .width - 1 - l .i) (l .i) (l .s .x) (l .s .y) (l .s .carry .count) (l .s .vars) (omega arith) (l .inv .live),
+      target-fits (s .args .t4) (s .args .g .width - 1 - l .i) (l .i) (l .s .x) (l .s .y) (l .s .carry) (l .s .vars) (omega arith) (l .inv .live),
     )
 
 add-i : tie.Need-add-i Inv-loop μ-loop

@@ -1,10 +1,11 @@
 -- `log_adder2::order_carries` meets its contract.
-use mathlib.Core.Path.{_≡_, ap, refl, sym, _∙_}
-use Prim.Native.Nat.{_+_, _-_, _%_}
+use mathlib.Core.Bool.{false}
+use mathlib.Core.Path.{_≡_, ap, sym, _∙_}
+use Prim.Native.Nat.{suc, _+_, _-_, _%_}
 use lib.ListN.{getD, length}
 use native.Mathlib.Omega.{arith}
 use Rattle.log_adder2.specs.EqState.{carry-of}
-use Rattle.log_adder2.proofs.EqHeights.{all-fit}
+use Rattle.log_adder2.proofs.EqHeights.{all-fit, tall-from}
 use Rattle.log_adder2.proofs.OrderingPass.{OrderingLeft, carry-is, ordering-dead, ordering-end, ordering-high, ordering-start, ordering-turn, start-state}
 use borrow.Author.Needs.{needs}
 use Rattle.log_adder2.proofs.order_carries.Statement.{statement}
@@ -19,15 +20,19 @@ abbrev μ-loop : tie.MeasureT-loop
 counts-long : (c : tie.Start Inv-loop μ-loop) → length (c .args .t3) ≡ 32
 counts-long c = c .good .1 .1 .0 .1 .0 .1
 
+-- the heights, as the laws of the pass ask for them
+fits : (s : tie.Start Inv-loop μ-loop) → tall-from (s .args .t3) (suc (s .args .g .width - 1)) 0 (s .args .g .x) (s .args .g .y) 0 ≡ false
+fits s = all-fit (s .args .t3) (s .args .g .width) (s .args .g .x) (s .args .g .y) (s .pre .0 .0) (omega (arith, counts-long s, s .pre .0 .1)) (s .pre .1 .1)
+
 sub-last : tie.Need-sub-last Inv-loop μ-loop
 sub-last c = search needs
 
 loop-holds : tie.Need-loop-holds Inv-loop μ-loop
 loop-holds c =
     let s = c .before .before .before in
-    ordering-start (s .args .t3) (s .args .g .width - 1) (s .args .lits .now) (s .args .ends .now) (start-state (s .args .g) (s .args .at))
-    (all-fit (s .args .t3) (s .args .g .width) (s .args .g .x) (s .args .g .y) (s .pre .0 .0) (omega (arith, counts-long s, s .pre .0 .1)) (s .pre .1 .1))
-    (record { live = refl; x = s .pre .0 .2; y = s .pre .0 .3; vars = omega (arith, s .pre .0); carry = omega arith; few = omega arith; lits = omega arith; clauses = omega arith })
+    ordering-start (s .args .t3) (s .args .g .width - 1) (s .args .lits .now) (s .args .ends .now) (start-state (s .args .g) (s .args .at) (s .args .g .vars)) (fits s)
+    (record { x = s .pre .0 .2; y = s .pre .0 .3; vars = omega (arith, s .pre .0); carry = omega arith; few = omega arith; lits = omega arith; clauses = omega arith })
+    (omega arith)
 
 mul-height : tie.Need-mul-height Inv-loop μ-loop
 mul-height c = search needs
@@ -50,25 +55,17 @@ enum-known-first c = search needs
 enum-told : tie.Need-enum-told Inv-loop μ-loop
 enum-told c = search needs
 
-dead-end-requires : tie.Need-dead-end-requires Inv-loop μ-loop
-dead-end-requires c κs =
-    let s = c .before .before .before .before .before .before .before .before .before .before .before .before .before in
-    let l = c .before .before .before .before .before .before .before .before .before .loop in
-    omega (arith, s .pre .1 .0, s .pre .0 .1, l .inv .level, l .inv .within)
-
 same-length : tie.Need-same-length Inv-loop μ-loop
-same-length c = c .before .before .before .before .dead-end .kept .0 ∙ c .before .before .before .before .before .before .before .before .before .before .before .before .before .before .loop .inv .lits-long
+same-length c = c .before .before .before .before .before .before .before .before .loop .inv .lits-long
 
 same-length-2 : tie.Need-same-length-2 Inv-loop μ-loop
-same-length-2 c = c .before .before .before .before .dead-end .kept .1 .0 ∙ c .before .before .before .before .before .before .before .before .before .before .before .before .before .before .loop .inv .ends-long
+same-length-2 c = c .before .before .before .before .before .before .before .before .loop .inv .ends-long
 
 returns : tie.Need-returns Inv-loop μ-loop
 returns c =
-    let s = c .before .before .before .before .before .before .before .before .before .before .before .before .before .before .before .before .before .before in
-    let l = c .before .before .before .before .before .before .before .before .before .before .before .before .before .before .loop in
-    let w = c .before .before .before .before .dead-end in
-    ordering-dead (s .args .t3) (s .args .g) (s .args .at) (s .pre .0 .1) (l .inv) (c .before .before .before .before .before .before .before .before .before .before .before .before .before .loop-test .taken)
-    (sym (c .before .before .before .before .before .before .before .before .before .next-carry .ensures) ∙ ap carry-of (c .before .before .before .before .before .before .before .enum-told .given .1)) _ _ (w .result) (w .ensures)
+    let s = c .before .before .before .before .before .before .before .before .before .before .before .before in
+    ordering-dead (s .args .t3) (s .args .g) (s .args .at) (s .pre .0 .1) (fits s) (c .before .before .before .before .before .before .before .before .loop .inv) (c .before .before .before .before .before .before .before .loop-test .taken)
+    (sym (c .before .before .before .next-carry .ensures) ∙ ap carry-of (c .before .enum-told .given .1))
 
 order-next-requires : tie.Need-order-next-requires Inv-loop μ-loop
 order-next-requires c κs =
@@ -93,16 +90,19 @@ loop-again c =
     ordering-turn (s .args .t3) (s .args .g .width - 1) (l .inv) (c .before .before .before .before .before .before .before .before .before .before .before .before .before .before .loop-test .taken) _ _
     (sym (c .before .before .before .before .before .before .before .before .before .before .next-carry .ensures) ∙ ap carry-of (c .before .before .before .before .before .before .before .before .first .given .1)) _ _ (w .result) (w .kept .0) (w .kept .1 .0) (w .ensures)
 
+carried-requires : tie.Need-carried-requires Inv-loop μ-loop
+carried-requires c κs = search needs
+
 same-length-3 : tie.Need-same-length-3 Inv-loop μ-loop
-same-length-3 c = c .before .loop .inv .lits-long
+same-length-3 c = c .before .before .loop .inv .lits-long
 
 same-length-4 : tie.Need-same-length-4 Inv-loop μ-loop
-same-length-4 c = c .before .loop .inv .ends-long
+same-length-4 c = c .before .before .loop .inv .ends-long
 
 returns-2 : tie.Need-returns-2 Inv-loop μ-loop
 returns-2 c =
-    let s = c .before .before .before .before .before in
-    ordering-end (s .args .t3) (s .args .g) (s .args .at) (s .pre .0 .1) (c .before .loop .inv) (c .loop-test .left)
+    let s = c .before .before .before .before .before .before in
+    ordering-end (s .args .t3) (s .args .g) (s .args .at) (s .pre .0 .1) (fits s) (c .before .before .loop .inv) (c .before .loop-test .left) (c .carried .result) (c .carried .ensures)
 
 pub order-carries-spec : {M : Type 1} → statement M
 order-carries-spec =
@@ -119,7 +119,6 @@ order-carries-spec =
     next-carry-requires
     enum-known-first
     enum-told
-    dead-end-requires
     same-length
     same-length-2
     returns
@@ -127,6 +126,7 @@ order-carries-spec =
     add-i
     loop-less
     loop-again
+    carried-requires
     same-length-3
     same-length-4
     returns-2)
