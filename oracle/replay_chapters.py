@@ -148,15 +148,36 @@ def forged():
     yield from shown(job_line(replace(base, switches=65, variables=65)), *CALLS, "open 1")
 
 
+# Counts of a job at a bound, and past one.
+HELD_COUNTS = [
+    dict(switches=5),
+    dict(switches=64, variables=64),
+    dict(variables=65_535),
+    dict(clauses=19),
+    dict(literals=40),
+    dict(count=3),
+    dict(count=32),
+]
+BROKEN_COUNTS = [
+    dict(switches=65, variables=65),
+    dict(switches=6),
+    dict(variables=65_536),
+    dict(variables=4),
+    dict(variables=1),
+    dict(clauses=20),
+    dict(clauses=U32),
+    dict(literals=41),
+    dict(literals=U32),
+    dict(count=1),
+    dict(count=33),
+    dict(count=U32),
+]
+
+
 def held(base):
     """At a bound, and still well formed."""
-    yield replace(base, switches=5)
-    yield replace(base, switches=64, variables=64)
-    yield replace(base, variables=65_535)
-    yield replace(base, clauses=19)
-    yield replace(base, literals=40)
-    yield replace(base, count=3)
-    yield replace(base, count=32)
+    for fields in HELD_COUNTS:
+        yield replace(base, **fields)
     yield with_record(base, 0, lits=(9, 9, 9, *[0] * 9))
     yield with_record(base, 1, lits=(1,) * BITS, length=12, low=-4095, high=0, offset=-4095)
     yield with_record(base, 1, lits=FULL, length=12, low=0, high=4095, offset=0)
@@ -171,18 +192,8 @@ def with_record(base, at, **fields):
 
 def broken(base):
     """Not well formed: each condition broken by one."""
-    yield replace(base, switches=65, variables=65)
-    yield replace(base, switches=6)
-    yield replace(base, variables=65_536)
-    yield replace(base, variables=4)
-    yield replace(base, variables=1)
-    yield replace(base, clauses=20)
-    yield replace(base, clauses=U32)
-    yield replace(base, literals=41)
-    yield replace(base, literals=U32)
-    yield replace(base, count=1)
-    yield replace(base, count=33)
-    yield replace(base, count=U32)
+    for fields in BROKEN_COUNTS:
+        yield replace(base, **fields)
     for fields in (
         dict(low=6),
         dict(low=-1),

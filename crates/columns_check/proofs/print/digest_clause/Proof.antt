@@ -1,8 +1,8 @@
--- `columns_check::digest_clause` meets its contract.
+-- `columns_check::print::digest_clause` meets its contract.
 use Prim.Native.Nat.{_-_, _<_}
 use borrow.Author.Needs.{needs}
-use Rattle.columns_check.proofs.digest_clause.Statement.{statement}
-use Rattle.columns_check.proofs.digest_clause.Tie as tie
+use Rattle.columns_check.proofs.print.digest_clause.Statement.{statement}
+use Rattle.columns_check.proofs.print.digest_clause.Tie as tie
 
 abbrev Inv-loop : tie.InvT-loop
 Inv-loop h lits begin end sum₀ i₀ sum i = sum < 2147483647

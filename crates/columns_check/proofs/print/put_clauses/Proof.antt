@@ -1,10 +1,10 @@
--- `columns_check::put_clauses` meets its contract.
+-- `columns_check::print::put_clauses` meets its contract.
 use mathlib.Core.Path.{_≡_}
 use Prim.Native.Nat.{_-_}
 use lib.ListN.{length}
 use borrow.Author.Needs.{needs}
-use Rattle.columns_check.proofs.put_clauses.Statement.{statement}
-use Rattle.columns_check.proofs.put_clauses.Tie as tie
+use Rattle.columns_check.proofs.print.put_clauses.Statement.{statement}
+use Rattle.columns_check.proofs.print.put_clauses.Tie as tie
 
 abbrev Inv-loop : tie.InvT-loop
 Inv-loop out₀ lits ends n to₀ k₀ t9 out to k = length out ≡ length out₀

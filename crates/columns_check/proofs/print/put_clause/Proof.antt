@@ -1,10 +1,10 @@
--- `columns_check::put_clause` meets its contract.
+-- `columns_check::print::put_clause` meets its contract.
 use mathlib.Core.Path.{_≡_}
 use Prim.Native.Nat.{_-_}
 use lib.ListN.{length}
 use borrow.Author.Needs.{needs}
-use Rattle.columns_check.proofs.put_clause.Statement.{statement}
-use Rattle.columns_check.proofs.put_clause.Tie as tie
+use Rattle.columns_check.proofs.print.put_clause.Statement.{statement}
+use Rattle.columns_check.proofs.print.put_clause.Tie as tie
 
 abbrev Inv-loop : tie.InvT-loop
 Inv-loop out₀ from lits begin end to₀ i₀ out to i = length out ≡ length out₀

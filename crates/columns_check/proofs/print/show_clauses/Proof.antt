@@ -1,11 +1,11 @@
--- `columns_check::show_clauses` meets its contract.
+-- `columns_check::print::show_clauses` meets its contract.
 use mathlib.Core.Path.{sym}
 use Prim.Native.Nat.{_≤_}
 use lib.ListN.{length}
 use lib.Seq.{length-take-le}
 use borrow.Author.Needs.{needs}
-use Rattle.columns_check.proofs.show_clauses.Statement.{statement}
-use Rattle.columns_check.proofs.show_clauses.Tie as tie
+use Rattle.columns_check.proofs.print.show_clauses.Statement.{statement}
+use Rattle.columns_check.proofs.print.show_clauses.Tie as tie
 
 show-count-requires : tie.Need-show-count-requires
 show-count-requires c κs = search needs

@@ -1,8 +1,8 @@
--- `columns_check::digest_clauses` meets its contract.
+-- `columns_check::print::digest_clauses` meets its contract.
 use Prim.Native.Nat.{_-_, _<_}
 use borrow.Author.Needs.{needs}
-use Rattle.columns_check.proofs.digest_clauses.Statement.{statement}
-use Rattle.columns_check.proofs.digest_clauses.Tie as tie
+use Rattle.columns_check.proofs.print.digest_clauses.Statement.{statement}
+use Rattle.columns_check.proofs.print.digest_clauses.Tie as tie
 
 abbrev Inv-loop : tie.InvT-loop
 Inv-loop lits ends n sum₀ k₀ sum k = sum < 2147483647

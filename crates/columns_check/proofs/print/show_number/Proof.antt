@@ -1,11 +1,11 @@
--- `columns_check::show_number` meets its contract.
+-- `columns_check::print::show_number` meets its contract.
 use mathlib.Core.Path.{sym}
 use Prim.Native.Nat.{_≤_}
 use lib.Seq.{length-take-le}
 use lib.ListN.{length}
 use borrow.Author.Needs.{needs}
-use Rattle.columns_check.proofs.show_number.Statement.{statement}
-use Rattle.columns_check.proofs.show_number.Tie as tie
+use Rattle.columns_check.proofs.print.show_number.Statement.{statement}
+use Rattle.columns_check.proofs.print.show_number.Tie as tie
 
 slice-aggregate-put : tie.Need-slice-aggregate-put
 slice-aggregate-put c = search needs
