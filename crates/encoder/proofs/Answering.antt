@@ -20,9 +20,9 @@ use Rattle.encoder_env.specs.declared.EncoderEnv.{EncoderEnv}
 use Rattle.encoder_env.proofs.Kept.{Kept}
 use Rattle.encoder_env.proofs.Tests.{both}
 use Rattle.encoder.specs.declared.Answer.{Answer}
-use Rattle.encoder.specs.Adding.{adding, grown, space-checks, space-for}
+use Rattle.encoder.specs.Adding.{adding, counts-of, grown, job-with, space-checks, space-for}
 use Rattle.encoder.specs.Outcome.{Answers, Outcome, status-of}
-use Rattle.encoder.specs.Sizes.{CountsAfter, RuleSize, counts-of, job-with}
+use Rattle.encoder.specs.Sizes.{CountsAfter, RuleSize}
 use Rattle.encoder.proofs.Statuses.{accepts, passed, refuses}
 
 -- the counts after clauses that were added

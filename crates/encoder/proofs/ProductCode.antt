@@ -4,7 +4,8 @@ use native.Mathlib.Omega.{arith}
 use Rattle.log_product.specs.Ready.{ProductsReady}
 use Rattle.encoder_env.specs.declared.EncoderEnv.{EncoderEnv}
 use Rattle.encoder_env.proofs.Kept.{Kept}
-use Rattle.encoder.specs.Sizes.{MulReady, counts-of}
+use Rattle.encoder.specs.Sizes.{MulReady}
+use Rattle.encoder.specs.Adding.{counts-of}
 use Rattle.encoder.proofs.AddedProduct.{ProductKnown}
 use Rattle.encoder.proofs.SumCode.{setting-ready}
 

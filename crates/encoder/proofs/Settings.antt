@@ -25,9 +25,9 @@ use Rattle.encoder_env.proofs.Kept.{Kept, all-at, kept}
 use Rattle.encoder_env.proofs.Tests.{both, bounds-known, lt-lez, order-lez}
 use Rattle.encoder.specs.declared.Answer.{Answer}
 use Rattle.encoder.specs.Calls.{all-in-range, rising, setting-checks, setting-outcome, with-encoding}
-use Rattle.encoder.specs.Adding.{space-checks}
+use Rattle.encoder.specs.Adding.{counts-of, space-checks}
 use Rattle.encoder.specs.Outcome.{Answers, status-of}
-use Rattle.encoder.specs.Sizes.{CountsAfter, SizeOf, counts-of, job-after}
+use Rattle.encoder.specs.Sizes.{CountsAfter, SizeOf, job-after}
 use Rattle.encoder.proofs.Answering.{adding-refused, counted, counts-fit, with-space, without-space}
 use Rattle.encoder.proofs.Statuses.{passed}
 

@@ -15,7 +15,8 @@ use Rattle.encoder_env.specs.WellFormed.{encoding-at, encoding-holds, eqz, is-s
 use Rattle.encoder_env.proofs.Kept.{Kept, all-at, in-use}
 use Rattle.encoder_env.proofs.Records.{lit-known}
 use Rattle.encoder_env.proofs.Tests.{both-l, both-r, eqz-true}
-use Rattle.encoder.specs.Sizes.{SumReady, counts-of}
+use Rattle.encoder.specs.Sizes.{SumReady}
+use Rattle.encoder.specs.Adding.{counts-of}
 use Rattle.encoder.specs.Sums.{coef-at, coef-fits, setting-at, setting-known, term-count}
 use Rattle.encoder.proofs.AddedSum.{ArgumentsKnown, SumKnown, coef-small, setting-below}
 

@@ -14,7 +14,7 @@ use Rattle.log_var.specs.declared.LogEncoding.{LogEncoding}
 use Rattle.clause_set.specs.Stores.{clause-at}
 use Rattle.encoder_env.specs.declared.EncoderEnv.{EncoderEnv}
 use Rattle.encoder_env.specs.WellFormed.{all-below, bounds-hold, code-fits, encoding-at, in-range, stores-within, well-formed}
-use Rattle.encoder.specs.Adding.{adding, grown}
+use Rattle.encoder.specs.Adding.{adding, grown, with-record}
 use Rattle.encoder.specs.Outcome.{Check, Outcome, check, settled, status-of}
 
 -- Open ---------------------------------------------------------------------------------------------------------------
@@ -81,18 +81,9 @@ abbrev pub setting-checks : EncoderEnv → ℕ → ℕ → IntVarRepresentation 
 setting-checks env lits ends repr =
     check (well-formed env lits ends) 1 ∷ (var-checks (env .switches) repr ++ (check (ltb (env .count) 32) 7 ∷ []))
 
--- the job with the new record behind those in use
+-- the job with the setting's clauses and its record
 abbrev pub with-encoding : EncoderEnv → EncodedVar → EncoderEnv
-with-encoding env out =
-    let job = grown env (out .vars) (out .clauses) in
-    record {
-      switches = job .switches;
-      variables = job .variables;
-      clauses = job .clauses;
-      literals = job .literals;
-      count = env .count + 1;
-      encodings = set (env .encodings) (env .count) (record-of (out .encoding));
-    }
+with-encoding env out = with-record (grown env (out .vars) (out .clauses)) (record-of (out .encoding))
 
 -- a range, a list or two values: what `encode-var-log` gives
 abbrev pub setting-outcome : EncoderEnv → List ℕ → List ℕ → IntVarRepresentation → Outcome

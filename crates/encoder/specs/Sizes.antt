@@ -1,7 +1,7 @@
--- What a new setting takes, as the code holds it.
+-- What a call that adds takes, as the code holds it.
 use Prim.Native.Nat.{_+_, _≤_, ℕ}
 use lib.IntN.{ℤ}
-use lib.ListN.{length, set}
+use lib.ListN.{length}
 use mathlib.Core.Bool.{false}
 use mathlib.Core.List.{List}
 use mathlib.Core.Path.{_≡_}
@@ -18,12 +18,9 @@ use Rattle.log_linear.specs.declared.RuleCounts.{RuleCounts}
 use Rattle.log_product.specs.Ready.{ProductsReady}
 use Rattle.log_sum.specs.Settings.{TermsReady}
 use Rattle.encoder_env.specs.declared.EncoderEnv.{EncoderEnv}
+use Rattle.encoder.specs.Adding.{job-with, with-record}
 use Rattle.encoder.specs.Products.{product-reached}
 use Rattle.encoder.specs.Sums.{sum-reached}
-
--- the clauses and literals in use
-abbrev pub counts-of : EncoderEnv → Counts
-counts-of env = record { clauses = env .clauses; lits = env .literals }
 
 -- the variable count and the counts in use after these clauses
 pub record CountsAfter (vars : ℕ) (clauses : Clauses) (at : Counts) (v : ℕ) (used : Counts) : Type 0 where
@@ -57,27 +54,6 @@ pub record MulReady (env : EncoderEnv) (x y m : ℕ) (at : Counts) : Type 0 wher
   pub clauses-fit : at .clauses ≤ 16777216
   pub heights : too-tall (product-reached env x y m) ≡ false
 
--- the job with these counts
-abbrev pub job-with : EncoderEnv → ℕ → Counts → EncoderEnv
-job-with env vars used =
-    record {
-      switches = env .switches;
-      variables = vars;
-      clauses = used .clauses;
-      literals = used .lits;
-      count = env .count;
-      encodings = env .encodings;
-    }
-
--- and with the record of a new setting
+-- the job with the counts and the record of a new setting
 abbrev pub job-after : EncoderEnv → EncodedVar → EncoderEnv
-job-after env new =
-    let job = job-with env (new .vars) (new .used) in
-    record {
-      switches = job .switches;
-      variables = job .variables;
-      clauses = job .clauses;
-      literals = job .literals;
-      count = env .count + 1;
-      encodings = set (env .encodings) (env .count) (new .encoding);
-    }
+job-after env new = with-record (job-with env (new .vars) (new .used)) (new .encoding)

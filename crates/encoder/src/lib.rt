@@ -7,8 +7,8 @@ ghost use Rattle.norm_csp.specs.Domain.{binary, list, range};
 ghost use Rattle.log_var.specs.Calls.{Ready};
 ghost use Rattle.encoder.specs.Outcome.{Answers, status-of};
 ghost use Rattle.encoder.specs.Calls.{all-bits, all-in-range, clause-checks, clause-outcome, open-checks, open-outcome, opened, read-checks, read-outcome, rising, setting-checks, setting-outcome};
-ghost use Rattle.encoder.specs.Adding.{space-checks};
-ghost use Rattle.encoder.specs.Sizes.{SizeOf, counts-of, job-after, job-with};
+ghost use Rattle.encoder.specs.Adding.{counts-of, job-with, space-checks};
+ghost use Rattle.encoder.specs.Sizes.{SizeOf, job-after};
 
 pub mod products; // products.rt: the call for products
 pub mod sums; // sums.rt: the call for sums

@@ -9,7 +9,8 @@ use Rattle.norm_csp.specs.Domain.{binary}
 use Rattle.log_var.specs.Calls.{VarAdded}
 use Rattle.encoder.specs.Calls.{setting-checks}
 use Rattle.encoder.specs.Outcome.{status-of}
-use Rattle.encoder.specs.Sizes.{SizeOf, counts-of}
+use Rattle.encoder.specs.Sizes.{SizeOf}
+use Rattle.encoder.specs.Adding.{counts-of}
 use Rattle.encoder.proofs.Settings.{Admitted, setting-counts-fit, binary-admitted, setting-added, setting-refused, setting-without-space}
 use Rattle.encoder.proofs.encode_binary.Statement.{statement}
 use Rattle.encoder.proofs.encode_binary.Tie as tie

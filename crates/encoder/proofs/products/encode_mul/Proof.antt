@@ -7,7 +7,8 @@ use Rattle.clause_set.specs.Stores.{after}
 use Rattle.log_linear.specs.Added.{add-rule, rule-outcome}
 use Rattle.encoder.specs.Outcome.{status-of}
 use Rattle.encoder.specs.Products.{mul-checks, product-encoded}
-use Rattle.encoder.specs.Sizes.{MulReady, RuleSize, counts-of}
+use Rattle.encoder.specs.Sizes.{MulReady, RuleSize}
+use Rattle.encoder.specs.Adding.{counts-of}
 use Rattle.encoder.proofs.AddedProduct.{ProductKnown, product-known}
 use Rattle.encoder.proofs.Answering.{rule-added, rule-counts-fit, rule-refused, rule-without-space}
 use Rattle.encoder.proofs.ProductCode.{mul-ready}

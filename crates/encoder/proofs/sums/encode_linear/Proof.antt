@@ -10,7 +10,8 @@ use Rattle.sat.specs.Encoded.{EncodedRule}
 use Rattle.clause_set.specs.Stores.{after}
 use Rattle.log_linear.specs.Added.{add-rule, rule-outcome}
 use Rattle.encoder.specs.Outcome.{status-of}
-use Rattle.encoder.specs.Sizes.{RuleSize, SumReady, counts-of}
+use Rattle.encoder.specs.Sizes.{RuleSize, SumReady}
+use Rattle.encoder.specs.Adding.{counts-of}
 use Rattle.encoder.specs.Sums.{linear-checks, sum-encoded}
 use Rattle.encoder.proofs.AddedSum.{SumKnown, sum-known}
 use Rattle.encoder.proofs.Answering.{rule-added, rule-counts-fit, rule-refused, rule-without-space}
