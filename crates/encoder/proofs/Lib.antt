@@ -1,11 +1,5 @@
+pub mod Invariant
+pub mod SettingKept
+pub mod RuleKept
+pub mod Faithful
 pub mod Bench
-pub mod Statuses
-pub mod Answering
-pub mod Settings
-pub mod Acceptance
-pub mod Adding
-pub mod AddedSetting
-pub mod AddedSum
-pub mod SumCode
-pub mod AddedProduct
-pub mod ProductCode

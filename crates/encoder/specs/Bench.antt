@@ -14,9 +14,10 @@ use Rattle.norm_csp.specs.Domain.{IntVarRepresentation, binary, list, range}
 use Rattle.clause_set.specs.Stores.{clauses-of, stores}
 use Rattle.log_var.specs.Record.{lits-of}
 use Rattle.encoder_env.specs.WellFormed.{encoding-at}
-use Rattle.encoder.specs.Calls.{open-outcome, setting-outcome}
-use Rattle.encoder.specs.Outcome.{Outcome}
-use Rattle.encoder.specs.Sums.{linear-outcome}
+use Rattle.encoder_read.specs.Calls.{open-outcome}
+use Rattle.encoder_var.specs.Settings.{setting-outcome}
+use Rattle.encoder_answer.specs.Outcome.{Outcome}
+use Rattle.encoder_linear.specs.Sums.{linear-outcome}
 
 -- what stands for a bit: the switch literal c, its negation, or a new variable
 pub data BitLit : Type 0 where

@@ -1,8 +1,3 @@
-pub mod Outcome
-pub mod Adding
-pub mod Calls
-pub mod Sums
-pub mod Products
-pub mod Encoded
-pub mod Sizes
+pub mod Run
+pub mod Faithful
 pub mod Bench

@@ -2,8 +2,8 @@
 ghost use mathlib.Core.Path.{_≡_};
 ghost use lib.ListN.{length, replicate};
 use encoder::Answer;
-use encoder::products::encode_mul;
-use encoder::sums::encode_linear;
+use encoder::encode_linear;
+use encoder::encode_mul;
 use encoder_env::EncoderEnv;
 use lines::Word;
 use sat::Lit;

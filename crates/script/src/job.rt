@@ -1,7 +1,7 @@
 // The job that the integers of a line say: counts of switches, variables, clauses, literals and settings, then 32 records of 16.
 ghost use mathlib.Core.Path.{_≡_};
 ghost use Prim.Native.Nat.{_<_};
-ghost use Rattle.encoder.specs.Calls.{opened};
+ghost use Rattle.encoder_read.specs.Calls.{opened};
 ghost use Rattle.script.specs.Job.{fits, is-job, job-of, lits-from, record-from, records-from, signed-or-0, signed-place, unsigned-or-0};
 use encoder_env::EncoderEnv;
 use log_var::LogEncoding;

@@ -1,0 +1,119 @@
+-- An accepted call that adds (`known`): what it had, and what it left. Of a rule: what its clauses say (`rule-encodes`), and that the job
+-- stays well formed (`rule-well-formed`).
+use mathlib.Core.Path.{_≡_, _∙_, ap, refl, sym}
+use mathlib.Core.Bool.{_&&_, true}
+use mathlib.Core.List.{List}
+use Prim.Native.Nat.{_+_, _-_, _≤_, ℕ}
+use native.Mathlib.Omega.{arith}
+use lib.Dec.{leb}
+use lib.ListN.{getD, length}
+use borrow.Author.Tests.{leb-true}
+use Rattle.sat.specs.Clause.{Assignment, Clauses}
+use Rattle.sat.specs.Encoded.{EncodedRule}
+use Rattle.sat.specs.Encodes.{Any, Encodes}
+use Rattle.sat.specs.Size.{entries}
+use Rattle.clause_set.specs.Stores.{Stores, add-clauses, clauses-after, clauses-from, stores}
+use Rattle.clause_set.proofs.ReadBack.{added-back, from-after, kept-end, kept-long}
+use Rattle.encoder_env.specs.declared.EncoderEnv.{EncoderEnv}
+use Rattle.encoder_env.specs.WellFormed.{all-below, record-holds, well-formed}
+use Rattle.encoder_env.proofs.Kept.{Kept, well-formed-of}
+use Rattle.encoder_env.proofs.Records.{records-more}
+use Rattle.encoder_env.proofs.Tests.{both}
+use Rattle.encoder_answer.specs.Adding.{added, adding, grown, space-for}
+use Rattle.encoder_answer.specs.Encoded.{added-clauses}
+use Rattle.encoder_answer.specs.Outcome.{Outcome, status-of}
+use Rattle.encoder_answer.proofs.Statuses.{passed, settled-known}
+
+module _ (status : ℕ) (env : EncoderEnv) (lits ends : List ℕ) (clauses : Clauses) (job : EncoderEnv) where
+  abbrev outcome : Outcome
+  outcome = adding status env lits ends clauses job
+
+  -- the stores after the call
+  abbrev filled : Stores
+  filled = add-clauses 0 clauses (stores lits ends (env .literals) (env .clauses))
+
+  pub record Accepted : Type 0 where
+    pub passed-all : status ≡ 0
+    pub vars-fit : job .variables ≤ 65535
+    pub lits-fit : env .literals + entries clauses ≤ length lits
+    pub ends-fit : env .clauses + length clauses + 1 ≤ length ends
+    pub outcome-is : outcome ≡ added env lits ends clauses job
+
+  pub known : outcome .status ≡ 0 → Accepted
+  known h =
+      let first = settled-known status env lits ends _ h in
+      let second = settled-known (status-of (space-for env (length lits) (length ends) (job .variables) clauses)) env lits ends _ (sym (ap (λ (o : Outcome). o .status) (first .1)) ∙ h) in
+      let v = passed (leb (job .variables) 65535) _ 13 (second .0) in
+      let room-lits = leb (env .literals + entries clauses) (length lits) in
+      let room-ends = leb (env .clauses + length clauses + 1) (length ends) in
+      let s = both room-lits room-ends (passed (room-lits && room-ends) 0 14 (v .1) .0) in
+      record {
+        passed-all = first .0;
+        vars-fit = leb-true (job .variables) 65535 (v .0);
+        lits-fit = leb-true (env .literals + entries clauses) (length lits) (s .0);
+        ends-fit = leb-true (env .clauses + length clauses + 1) (length ends) (s .1);
+        outcome-is = first .1 ∙ second .1;
+      }
+
+  module _ (a : Accepted) (counted : job .clauses ≡ env .clauses + length clauses) where
+    -- the clauses added are read back from the stores, whatever these held
+    pub clauses-are : added-clauses env outcome ≡ clauses
+    clauses-are =
+        let e : job .clauses - env .clauses ≡ length clauses = omega (arith, counted) in
+        ap (added-clauses env) (a .outcome-is)
+        ∙ rw e (added-back clauses (stores lits ends (env .literals) (env .clauses)) (a .lits-fit) (omega (arith, a .ends-fit)))
+
+    -- where the last end is the literal count, as in every job grown from an opening, they are the clauses from the old count on
+    pub clauses-read : getD ends (env .clauses) 0 ≡ env .literals
+        → clauses-from (outcome .lits) (outcome .ends) (env .clauses) (outcome .env .clauses - env .clauses) ≡ added-clauses env outcome
+    clauses-read e =
+        let n = outcome .env .clauses - env .clauses in
+        let same : getD (outcome .ends) (env .clauses) 0 ≡ env .literals =
+        ap (λ (o : Outcome). getD (o .ends) (env .clauses) 0) (a .outcome-is)
+        ∙ kept-end clauses (stores lits ends (env .literals) (env .clauses)) (env .clauses) (omega arith) ∙ e in
+        from-after n (env .clauses) (outcome .lits) (outcome .ends) ∙ ap (λ (b : ℕ). clauses-after (outcome .lits) (outcome .ends) b (env .clauses) n) same
+
+    -- the job stays well formed where its records do
+    pub still-well-formed : Kept env (length lits) (length ends) → env .switches ≡ job .switches → env .variables ≤ job .variables
+        → job .literals ≡ env .literals + entries clauses → job .count ≤ 32 → all-below 32 (record-holds job) ≡ true
+        → well-formed job (length (filled .lits)) (length (filled .ends)) ≡ true
+    still-well-formed k s v l c r =
+        let long = kept-long clauses (stores lits ends (env .literals) (env .clauses)) in
+        well-formed-of job (length (filled .lits)) (length (filled .ends))
+        (record {
+          lits-max = omega (arith, long, k .lits-max);
+          ends-max = omega (arith, long, k .ends-max);
+          switches-max = omega (arith, s, k .switches-max);
+          variables-max = a .vars-fit;
+          switches-in = omega (arith, s, v, k .switches-in);
+          count-max = c;
+          literals-in = omega (arith, long, l, a .lits-fit);
+          clauses-in = omega (arith, long, counted, a .ends-fit);
+          records = r;
+        })
+
+-- An accepted rule ---------------------------------------------------------------------------------------------------
+
+module _ (status : ℕ) (env : EncoderEnv) (lits ends : List ℕ) (out : EncodedRule) (R : Assignment → Type 0) where
+  abbrev job : EncoderEnv
+  job = grown env (out .vars) (out .clauses)
+
+  pub record RuleAdded : Type 0 where
+    pub holds : Kept env (length lits) (length ends)
+    pub accepted : Accepted status env lits ends (out .clauses) job
+    pub says : Encodes (env .variables) (out .vars) Any R (out .clauses)
+
+  module _ (a : RuleAdded) where
+    -- what the clauses that the stores hold say
+    pub rule-encodes : (let o = adding status env lits ends (out .clauses) job in Encodes (env .variables) (o .env .variables) Any R (added-clauses env o))
+    rule-encodes =
+        let o = adding status env lits ends (out .clauses) job in
+        let vars : o .env .variables ≡ out .vars = ap (λ (x : Outcome). x .env .variables) (a .accepted .outcome-is) in
+        rw (clauses-are status env lits ends (out .clauses) job (a .accepted) refl, vars) (a .says)
+
+    pub rule-well-formed : (let after = add-clauses 0 (out .clauses) (stores lits ends (env .literals) (env .clauses)) in
+        well-formed job (length (after .lits)) (length (after .ends)) ≡ true)
+    rule-well-formed =
+        let k = a .holds in
+        still-well-formed status env lits ends (out .clauses) job (a .accepted) refl k refl (a .says .grows) refl (k .count-max)
+        (records-more env job refl refl (a .says .grows) (k .records))

@@ -1,0 +1,4 @@
+pub mod Statuses
+pub mod Answering
+pub mod Adding
+pub mod Ready

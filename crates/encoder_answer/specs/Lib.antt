@@ -1,0 +1,4 @@
+pub mod Outcome
+pub mod Adding
+pub mod Sizes
+pub mod Encoded

@@ -1,0 +1,13 @@
+-- Demand 2 at the call for products: what the clauses that it added say.
+use Prim.Native.Nat.{ℕ}
+use mathlib.Core.List.{List}
+use Rattle.norm_csp.specs.Rules.{MulHolds}
+use Rattle.encoder_env.specs.declared.EncoderEnv.{EncoderEnv}
+use Rattle.encoder_mul.specs.Products.{mul-outcome}
+use Rattle.encoder_answer.specs.Encoded.{RuleEncodes, number}
+
+-- for every product (`mul-encodes`)
+abbrev pub MulEncodes : Type 0
+MulEncodes =
+    (env : EncoderEnv) (lits ends : List ℕ) (x y m : ℕ)
+    → RuleEncodes env (mul-outcome env lits ends x y m) (λ α. MulHolds (number env α) x y m)

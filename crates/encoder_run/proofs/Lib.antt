@@ -1,4 +1,0 @@
-pub mod Invariant
-pub mod SettingKept
-pub mod RuleKept
-pub mod Faithful
