@@ -9,8 +9,8 @@ ghost use lib.ListN.{length};
 fn run_line(line: lines::Line, nums: &mut [i64], lits: &mut [u32], ends: &mut [u32])
     requires { ⌜ (8192 ≤ length (now lits)) × (4096 ≤ length (now ends)) ⌝ }
 {
-    script::clear(lits);
-    script::clear(ends);
+    script_state::clear(lits);
+    script_state::clear(ends);
     let start = script::start();
     let run = start.run;
     script::finish(Part { line, run }, nums, lits, ends);

@@ -1,6 +1,4 @@
 // One line of a script: the call that its word names, on the job and the lent stores.
-ghost use mathlib.Core.Path.{_≡_};
-ghost use lib.ListN.{length, replicate};
 use encoder::Answer;
 use encoder::encode_linear;
 use encoder::encode_mul;
@@ -22,17 +20,6 @@ fn good(env: EncoderEnv) -> Next {
 
 fn bad(env: EncoderEnv) -> Next {
     Next { env, good: false }
-}
-
-// Every entry is 0.
-pub fn clear(store: &mut [u32])
-    ensures { λ r. ⌜ now (store .exit) ≡ replicate (length (now (store .entry))) 0 ⌝ }
-{
-    let mut i: usize = 0;
-    while i < store.len() {
-        store[i] = 0;
-        i += 1;
-    }
 }
 
 // The answer is printed, and its job kept.
@@ -177,8 +164,8 @@ fn clause(nums: &[i64], env: EncoderEnv, lits: &[u32], ends: &[u32]) -> Next {
 
 // `job ..`
 fn job(nums: &[i64], env: EncoderEnv) -> Next {
-    if super::job::is_job(nums) {
-        return good(super::job::job_of(nums));
+    if script_state::is_job(nums) {
+        return good(script_state::job_of(nums));
     }
     bad(env)
 }

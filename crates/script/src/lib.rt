@@ -8,10 +8,8 @@
 // A call prints `STATUS VALUE VARIABLES CLAUSES LITERALS`, an accepted `clause` also ` :` and its literals. A line that cannot be read
 // prints `bad line N` and ends the run; an empty line is passed over.
 mod calls;
-mod job;
 mod print;
 
-pub use calls::clear;
 use encoder_env::EncoderEnv;
 use lines::Line;
 use lines::Word;
@@ -131,8 +129,8 @@ fn run_stores(nums: &[i64], run: Run, lits: &mut [u32], ends: &mut [u32]) -> Run
     if nums.len() != 2 || !l.good || !e.good {
         return stopped(run);
     }
-    calls::clear(lits);
-    calls::clear(ends);
+    script_state::clear(lits);
+    script_state::clear(ends);
     with_stores(run, l.value, e.value)
 }
 
@@ -212,7 +210,7 @@ pub fn run_part(s: &[u8], part: Part, nums: &mut [i64], lits: &mut [u32], ends: 
 pub fn start() -> Part
     ensures { λ r. ⌜ (r .run .lits ≡ 8192) × (r .run .ends ≡ 4096) ⌝ }
 {
-    let env = job::nothing();
+    let env = script_state::nothing();
     let run = Run {
         env,
         lits: 8192,

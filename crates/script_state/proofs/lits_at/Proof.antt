@@ -1,12 +1,12 @@
 -- `script::job::lits_at` meets its contract.
-use Rattle.script.proofs.Tables.{Filling, filling-none, filling-more, filling-end}
-use Rattle.script.specs.Job.{lit-from, lits-from}
+use Rattle.script_state.proofs.Tables.{Filling, filling-none, filling-more, filling-end}
+use Rattle.script_state.specs.Job.{lit-from, lits-from}
 use denote.Ref.{now}
 use Prim.Native.Nat.{ℕ, _-_}
 use mathlib.Core.Path.{refl, ap}
 use borrow.Author.Needs.{needs}
-use Rattle.script.proofs.job.lits_at.Statement.{statement}
-use Rattle.script.proofs.job.lits_at.Tie as tie
+use Rattle.script_state.proofs.lits_at.Statement.{statement}
+use Rattle.script_state.proofs.lits_at.Tie as tie
 
 abbrev Inv-loop : tie.InvT-loop
 Inv-loop nums at lits₀ i₀ lits i = Filling 12 (lit-from nums at) lits i

@@ -1,9 +1,9 @@
 -- `script::job::job_of` meets its contract.
-use Rattle.script.proofs.Tables.{job-made}
+use Rattle.script_state.proofs.Tables.{job-made}
 use denote.Ref.{now}
 use borrow.Author.Needs.{needs}
-use Rattle.script.proofs.job.job_of.Statement.{statement}
-use Rattle.script.proofs.job.job_of.Tie as tie
+use Rattle.script_state.proofs.job_of.Statement.{statement}
+use Rattle.script_state.proofs.job_of.Tie as tie
 
 records-requires : tie.Need-records-requires
 records-requires c κs = search needs

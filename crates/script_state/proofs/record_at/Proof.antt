@@ -1,12 +1,12 @@
 -- `script::job::record_at` meets its contract.
-use Rattle.script.proofs.Tables.{record-made}
+use Rattle.script_state.proofs.Tables.{record-made}
 use mir.ValLaws.{toZ-ofZ}
 use mir.Syntax.{w32}
 use denote.Ref.{now}
 use mathlib.Core.Path.{_∙_}
 use borrow.Author.Needs.{needs}
-use Rattle.script.proofs.job.record_at.Statement.{statement}
-use Rattle.script.proofs.job.record_at.Tie as tie
+use Rattle.script_state.proofs.record_at.Statement.{statement}
+use Rattle.script_state.proofs.record_at.Tie as tie
 
 lits-at-requires : tie.Need-lits-at-requires
 lits-at-requires c κs = search needs

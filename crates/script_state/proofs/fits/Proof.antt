@@ -1,10 +1,10 @@
 -- `script::job::fits` meets its contract.
-use Rattle.script.proofs.Tables.{fits-signed, fits-unsigned}
+use Rattle.script_state.proofs.Tables.{fits-signed, fits-unsigned}
 use denote.Ref.{now}
 use mathlib.Core.Path.{sym, _∙_}
 use borrow.Author.Needs.{needs}
-use Rattle.script.proofs.job.fits.Statement.{statement}
-use Rattle.script.proofs.job.fits.Tie as tie
+use Rattle.script_state.proofs.fits.Statement.{statement}
+use Rattle.script_state.proofs.fits.Tie as tie
 
 is-signed-place-requires : tie.Need-is-signed-place-requires
 is-signed-place-requires c κs = search needs

@@ -1,11 +1,11 @@
 -- `script::job::signed_or_0` meets its contract.
-use Rattle.script.specs.Job.{signed-value}
+use Rattle.script_state.specs.Job.{signed-value}
 use mir.ValLaws.{toZ-ofZ}
 use mir.Syntax.{w32}
 use mathlib.Core.Path.{sym, ap, _∙_}
 use borrow.Author.Needs.{needs}
-use Rattle.script.proofs.job.signed_or_0.Statement.{statement}
-use Rattle.script.proofs.job.signed_or_0.Tie as tie
+use Rattle.script_state.proofs.signed_or_0.Statement.{statement}
+use Rattle.script_state.proofs.signed_or_0.Tie as tie
 
 signed-at-requires : tie.Need-signed-at-requires
 signed-at-requires c κs = search needs

@@ -1,6 +1,6 @@
 -- `script::job::is_job` meets its contract.
-use Rattle.script.proofs.Tables.{job-short, job-tested}
-use Rattle.script.specs.Job.{fits}
+use Rattle.script_state.proofs.Tables.{job-short, job-tested}
+use Rattle.script_state.specs.Job.{fits}
 use Rattle.encoder_env.proofs.Tests.{all-more, all-fail}
 use Rattle.encoder_env.specs.WellFormed.{all-below}
 use borrow.Author.Tests.{not-true, not-false}
@@ -10,8 +10,8 @@ use native.Mathlib.Omega.{arith}
 use Prim.Native.Nat.{ℕ, _≤_, _-_}
 use mathlib.Core.Path.{_≡_, refl, sym, ap, _∙_}
 use borrow.Author.Needs.{needs}
-use Rattle.script.proofs.job.is_job.Statement.{statement}
-use Rattle.script.proofs.job.is_job.Tie as tie
+use Rattle.script_state.proofs.is_job.Statement.{statement}
+use Rattle.script_state.proofs.is_job.Tie as tie
 
 abbrev Inv-loop : tie.InvT-loop
 Inv-loop nums i₀ i = (i ≤ 517) × (all-below i (fits nums) ≡ true)

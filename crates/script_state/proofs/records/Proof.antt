@@ -1,12 +1,12 @@
 -- `script::job::records` meets its contract.
-use Rattle.script.proofs.Tables.{Filling, filling-none, filling-more, filling-end}
-use Rattle.script.specs.Job.{record-from, records-from}
+use Rattle.script_state.proofs.Tables.{Filling, filling-none, filling-more, filling-end}
+use Rattle.script_state.specs.Job.{record-from, records-from}
 use denote.Ref.{now}
 use Prim.Native.Nat.{ℕ, _+_, _*_, _-_}
 use mathlib.Core.Path.{refl}
 use borrow.Author.Needs.{needs}
-use Rattle.script.proofs.job.records.Statement.{statement}
-use Rattle.script.proofs.job.records.Tie as tie
+use Rattle.script_state.proofs.records.Statement.{statement}
+use Rattle.script_state.proofs.records.Tie as tie
 
 abbrev Inv-loop : tie.InvT-loop
 Inv-loop nums encodings₀ i₀ encodings i = Filling 32 (λ (k : ℕ). record-from nums (5 + 16 * k)) encodings i

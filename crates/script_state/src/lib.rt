@@ -1,8 +1,10 @@
-// The job that the integers of a line say: counts of switches, variables, clauses, literals and settings, then 32 records of 16.
+// What a script may put in place of what the calls left: the job that the integers of a line say, and stores of all 0. A job's integers are
+// its counts of switches, variables, clauses, literals and settings, then 32 records of 16.
 ghost use mathlib.Core.Path.{_≡_};
 ghost use Prim.Native.Nat.{_<_};
+ghost use lib.ListN.{length, replicate};
 ghost use Rattle.encoder_read.specs.Calls.{opened};
-ghost use Rattle.script.specs.Job.{fits, is-job, job-of, lits-from, record-from, records-from, signed-or-0, signed-place, unsigned-or-0};
+ghost use Rattle.script_state.specs.Job.{fits, is-job, job-of, lits-from, record-from, records-from, signed-or-0, signed-place, unsigned-or-0};
 use encoder_env::EncoderEnv;
 use log_var::LogEncoding;
 use sat::Lit;
@@ -156,5 +158,16 @@ pub fn job_of(nums: &[i64]) -> EncoderEnv
         literals: unsigned_or_0(nums, 3),
         count: unsigned_or_0(nums, 4),
         encodings,
+    }
+}
+
+// Every entry is 0.
+pub fn clear(store: &mut [u32])
+    ensures { λ r. ⌜ now (store .exit) ≡ replicate (length (now (store .entry))) 0 ⌝ }
+{
+    let mut i: usize = 0;
+    while i < store.len() {
+        store[i] = 0;
+        i += 1;
     }
 }

@@ -16,7 +16,7 @@ use Rattle.words.specs.declared.Unsigned.{Unsigned}
 use Rattle.lines.specs.Fitting.{signed-at, unsigned-at}
 use Rattle.encoder_env.specs.declared.EncoderEnv.{EncoderEnv}
 use Rattle.encoder_env.specs.WellFormed.{all-below}
-use Rattle.script.specs.Job.{fits, is-job, job-of, lits-from, record-from, records-from, signed-fits, signed-or-0, signed-place, table, unsigned-fits, unsigned-or-0}
+use Rattle.script_state.specs.Job.{fits, is-job, job-of, lits-from, record-from, records-from, signed-fits, signed-or-0, signed-place, table, unsigned-fits, unsigned-or-0}
 use Rattle.sat.specs.declared.Lit.{Lit}
 use Rattle.log_var.specs.declared.LogEncoding.{LogEncoding}
 

@@ -1,12 +1,12 @@
 -- `script::calls::clear` meets its contract.
-use Rattle.script.proofs.Tables.{Clearing, clearing-none, clearing-more, clearing-end}
+use Rattle.script_state.proofs.Tables.{Clearing, clearing-none, clearing-more, clearing-end}
 use lib.ListN.{length}
 use denote.Ref.{now}
 use native.Mathlib.Omega.{arith}
 use Prim.Native.Nat.{_-_}
 use borrow.Author.Needs.{needs}
-use Rattle.script.proofs.calls.clear.Statement.{statement}
-use Rattle.script.proofs.calls.clear.Tie as tie
+use Rattle.script_state.proofs.clear.Statement.{statement}
+use Rattle.script_state.proofs.clear.Tie as tie
 
 abbrev Inv-loop : tie.InvT-loop
 Inv-loop store₀ i₀ store i = Clearing store₀ store i

@@ -1,9 +1,9 @@
 -- `script::job::unsigned_or_0` meets its contract.
-use Rattle.script.specs.Job.{unsigned-value}
+use Rattle.script_state.specs.Job.{unsigned-value}
 use mathlib.Core.Path.{sym, ap, _∙_}
 use borrow.Author.Needs.{needs}
-use Rattle.script.proofs.job.unsigned_or_0.Statement.{statement}
-use Rattle.script.proofs.job.unsigned_or_0.Tie as tie
+use Rattle.script_state.proofs.unsigned_or_0.Statement.{statement}
+use Rattle.script_state.proofs.unsigned_or_0.Tie as tie
 
 unsigned-at-requires : tie.Need-unsigned-at-requires
 unsigned-at-requires c κs = search needs

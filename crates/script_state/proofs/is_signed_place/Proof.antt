@@ -1,7 +1,7 @@
 -- `script::job::is_signed_place` meets its contract.
-use Rattle.script.proofs.Tables.{place-count, place-record}
-use Rattle.script.proofs.job.is_signed_place.Statement.{statement}
-use Rattle.script.proofs.job.is_signed_place.Tie as tie
+use Rattle.script_state.proofs.Tables.{place-count, place-record}
+use Rattle.script_state.proofs.is_signed_place.Statement.{statement}
+use Rattle.script_state.proofs.is_signed_place.Tie as tie
 
 returns : tie.Need-returns
 returns c = place-count _ (c .if1 .taken)
