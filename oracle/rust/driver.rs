@@ -66,15 +66,17 @@ fn given(numbers: &[i32]) -> Job {
     Job::given(switches, variables, records)
 }
 
+/// The clauses sent during a call, then the returned set.
 fn call(job: &mut Job, word: &str, n: &[i32]) -> Clauses {
     match word {
-        "range" => job.range(n[0], n[1]),
-        "list" => job.list(n),
-        "binary" => job.binary(n[0] as usize, n[1], n[2]),
-        "linear" => job.linear(n[0], n[1], &n[2..]),
-        "mul" => job.mul(n[0] as usize, n[1] as usize, n[2] as usize),
+        "range" => job.add_range(n[0], n[1]),
+        "list" => job.add_list(n),
+        "binary" => job.add_binary(n[0] as usize, n[1], n[2]),
+        "linear" => job.add_linear(n[0], n[1], &n[2..]),
+        "mul" => job.add_mul(n[0] as usize, n[1] as usize, n[2] as usize),
         _ => panic!("unknown word {}", word),
     }
+    job.sat.take_clauses()
 }
 
 fn kept(job: &Job, pending: Pending) -> String {

@@ -93,32 +93,31 @@ impl Job {
         encoding.unwrap().log_encoding.as_ref().unwrap()
     }
 
-    fn add_setting(&mut self, repr: IntVarRepresentation) -> Clauses {
+    fn add_setting(&mut self, repr: IntVarRepresentation) {
         let var = self.norm.vars.new_int_var(repr);
         self.map
             .convert_int_var_log_encoding(&self.norm.vars, &mut self.sat, var);
         self.settings.push(var);
-        self.sat.take_clauses()
     }
 
-    pub fn range(&mut self, low: i32, high: i32) -> Clauses {
-        self.add_setting(IntVarRepresentation::Domain(Domain::range(low, high)))
+    pub fn add_range(&mut self, low: i32, high: i32) {
+        self.add_setting(IntVarRepresentation::Domain(Domain::range(low, high)));
     }
 
-    pub fn list(&mut self, values: &[i32]) -> Clauses {
+    pub fn add_list(&mut self, values: &[i32]) {
         let domain = Domain::enumerative(values.to_vec());
-        self.add_setting(IntVarRepresentation::Domain(domain))
+        self.add_setting(IntVarRepresentation::Domain(domain));
     }
 
-    pub fn binary(&mut self, cond: usize, v_false: i32, v_true: i32) -> Clauses {
+    pub fn add_binary(&mut self, cond: usize, v_false: i32, v_true: i32) {
         self.add_setting(IntVarRepresentation::Binary {
             cond: BoolLit::new(self.switches[cond / 2], cond % 2 == 1),
             v_false: CheckedInt::new(v_false),
             v_true: CheckedInt::new(v_true),
-        })
+        });
     }
 
-    pub fn linear(&mut self, op: i32, constant: i32, terms: &[i32]) -> Clauses {
+    pub fn add_linear(&mut self, op: i32, constant: i32, terms: &[i32]) {
         let mut sum = LinearSum::constant(CheckedInt::new(constant));
         for term in terms.chunks(2) {
             let var = self.settings[term[0] as usize];
@@ -126,20 +125,20 @@ impl Job {
         }
         let op = [CmpOp::Eq, CmpOp::Ne, CmpOp::Ge][op as usize];
         let returned = encode_linear_log(&mut self.env(), &sum, op);
-        self.sent_then(&returned)
+        self.send(&returned);
     }
 
-    pub fn mul(&mut self, x: usize, y: usize, m: usize) -> Clauses {
+    pub fn add_mul(&mut self, x: usize, y: usize, m: usize) {
         let (x, y, m) = (self.settings[x], self.settings[y], self.settings[m]);
         let returned = encode_mul_log(&mut self.env(), x, y, m);
-        self.sent_then(&returned)
+        self.send(&returned);
     }
 
-    /// The clauses sent during a call, then the returned set.
-    fn sent_then(&mut self, returned: &ClauseSet) -> Clauses {
-        let mut clauses = self.sat.take_clauses();
-        clauses.extend(clauses_of(returned));
-        clauses
+    /// The returned set goes behind the clauses sent during the call.
+    fn send(&mut self, returned: &ClauseSet) {
+        for i in 0..returned.len() {
+            self.sat.add_clause(&returned[i]);
+        }
     }
 
     pub fn read(&self, setting: usize, assignment: &[bool]) -> i32 {

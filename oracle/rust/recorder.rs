@@ -37,16 +37,19 @@ impl Not for Lit {
     }
 }
 
+/// The clauses' literals one behind the other, and where each clause ends.
 pub struct SAT {
     variables: usize,
-    clauses: Vec<Vec<Lit>>,
+    pub lits: Vec<Lit>,
+    pub ends: Vec<usize>,
 }
 
 impl SAT {
     pub fn new() -> SAT {
         SAT {
             variables: 0,
-            clauses: vec![],
+            lits: vec![],
+            ends: vec![],
         }
     }
 
@@ -69,12 +72,15 @@ impl SAT {
     }
 
     pub fn add_clause(&mut self, clause: &[Lit]) {
-        self.clauses.push(clause.to_vec());
+        self.lits.extend_from_slice(clause);
+        self.ends.push(self.lits.len());
     }
 
     /// Hands over the clauses noted since the last time.
     pub fn take_clauses(&mut self) -> Vec<Vec<Lit>> {
-        std::mem::take(&mut self.clauses)
+        let (lits, ends) = (std::mem::take(&mut self.lits), std::mem::take(&mut self.ends));
+        let begins = std::iter::once(0).chain(ends.iter().copied());
+        begins.zip(&ends).map(|(begin, &end)| lits[begin..end].to_vec()).collect()
     }
 
     pub fn get_backend(&self) -> Backend {
