@@ -221,12 +221,17 @@ call-kept s b cs inv c = go (eqb (outcome s c .status) 0) refl
 
 -- All calls ----------------------------------------------------------------------------------------------------------
 
-run-faithful : (s : State) (b : NormCsp) (cs : Clauses) → Invariant s b cs → (calls : List Call) → Faithful (run s calls) (book b (answered s calls))
-run-faithful s b cs inv [] = faithful s b cs inv
-run-faithful s b cs inv (c ∷ calls) =
+run-kept : (s : State) (b : NormCsp) (cs : Clauses) → Invariant s b cs → (calls : List Call)
+    → (ds : Clauses) × Invariant (run s calls) (book b (answered s calls)) ds
+run-kept s b cs inv [] = (cs, inv)
+run-kept s b cs inv (c ∷ calls) =
     let (ds, next) = call-kept s b cs inv c in
-    run-faithful (left (outcome s c)) (feed b (record { call = c; status = outcome s c .status })) ds next calls
+    run-kept (left (outcome s c)) (feed b (record { call = c; status = outcome s c .status })) ds next calls
+
+pub grown-kept : (switches : ℕ) (lits ends : List ℕ) → open-outcome switches lits ends .status ≡ 0 → (calls : List Call)
+    → (let start = left (open-outcome switches lits ends) in (ds : Clauses) × Invariant (run start calls) (book (begun switches) (answered start calls)) ds)
+grown-kept switches lits ends h calls =
+    run-kept (left (open-outcome switches lits ends)) (begun switches) [] (opened-invariant switches lits ends h) calls
 
 pub demand-3 : Demand3
-demand-3 switches lits ends h calls =
-    run-faithful (left (open-outcome switches lits ends)) (begun switches) [] (opened-invariant switches lits ends h) calls
+demand-3 switches lits ends h calls = let (ds, inv) = grown-kept switches lits ends h calls in faithful _ _ ds inv

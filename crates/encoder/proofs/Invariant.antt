@@ -37,6 +37,7 @@ use Rattle.encoder.specs.Run.{State, left}
 -- it comes about in one way.
 pub record Invariant (s : State) (b : NormCsp) (cs : Clauses) : Type 0 where
   pub held : written s ≡ cs
+  pub size : entries cs ≡ s .env .literals
   pub ends-sound : Sound (stores-of s)
   pub well : well-formed (s .env) (length (s .lits)) (length (s .ends)) ≡ true
   pub long : length (s .env .encodings) ≡ 32
@@ -91,6 +92,7 @@ module _ (n : ℕ) (lits ends : List ℕ) where
       let many : length (set ends 0 0) ≡ length ends = length-set ends 0 0 in
       record {
         held = refl;
+        size = refl;
         ends-sound =
             record {
               last-end = first;

@@ -14,7 +14,7 @@ use log_var::LogEncoding;
 use sat::Lit;
 
 // A job with that many switches and nothing else.
-fn opened(switches: u32) -> EncoderEnv
+pub fn opened(switches: u32) -> EncoderEnv
     ensures { λ r. ⌜ r ≡ opened switches ⌝ }
 {
     let none = LogEncoding {

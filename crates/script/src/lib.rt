@@ -210,7 +210,7 @@ pub fn run_part(s: &[u8], part: Part, nums: &mut [i64], lits: &mut [u32], ends: 
 pub fn start() -> Part
     ensures { λ r. ⌜ (r .run .lits ≡ 8192) × (r .run .ends ≡ 4096) ⌝ }
 {
-    let env = script_state::nothing();
+    let env = encoder_read::opened(0);
     let run = Run {
         env,
         lits: 8192,

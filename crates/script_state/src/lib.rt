@@ -3,34 +3,12 @@
 ghost use mathlib.Core.Path.{_≡_};
 ghost use Prim.Native.Nat.{_<_};
 ghost use lib.ListN.{length, replicate};
-ghost use Rattle.encoder_read.specs.Calls.{opened};
 ghost use Rattle.script_state.specs.Job.{fits, is-job, job-of, lits-from, record-from, records-from, signed-or-0, signed-place, unsigned-or-0};
 use encoder_env::EncoderEnv;
 use log_var::LogEncoding;
 use sat::Lit;
 use words::Signed;
 use words::Unsigned;
-
-// The job of all 0.
-pub fn nothing() -> EncoderEnv
-    ensures { λ r. ⌜ r ≡ opened 0 ⌝ }
-{
-    let none = LogEncoding {
-        lits: [Lit(0); 12],
-        len: 0,
-        low: 0,
-        high: 0,
-        offset: 0,
-    };
-    EncoderEnv {
-        switches: 0,
-        variables: 0,
-        clauses: 0,
-        literals: 0,
-        count: 0,
-        encodings: [none; 32],
-    }
-}
 
 // Number i, or 0 where it does not fit a u32.
 fn unsigned_or_0(nums: &[i64], i: usize) -> u32
