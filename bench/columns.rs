@@ -1,10 +1,9 @@
 // One column's clauses by the proved writer and by the Rust, on the same columns in one run: first that they are the same clauses,
 // then the time of each.
 
-use std::time::Instant;
-
 use super::mixed::encode_linear_eq_mixed_from_info;
 use super::order::{LinearInfoForOrderEncoding, OrderEncoding};
+use super::time::shortest;
 use super::{ClauseSet, LinearInfo};
 use crate::arithmetic::CheckedInt;
 use crate::sat::{Lit, Var};
@@ -24,7 +23,6 @@ extern "C" {
 
 const LITS: usize = 1 << 20;
 const ENDS: usize = 1 << 17;
-const RUNS: usize = 9;
 
 /// Consecutive variables as one term.
 fn range(coef: i32, first: i32, count: usize) -> (i32, OrderEncoding) {
@@ -51,19 +49,6 @@ fn original(terms: &[(i32, OrderEncoding)], bit: usize) -> ClauseSet {
         })
         .collect();
     encode_linear_eq_mixed_from_info(info, CheckedInt::new(bit as i32))
-}
-
-/// The shortest of several runs, in nanoseconds for each time that `f` was called.
-fn shortest(calls: usize, mut f: impl FnMut()) -> f64 {
-    let mut best = f64::MAX;
-    for _ in 0..RUNS {
-        let start = Instant::now();
-        for _ in 0..calls {
-            f();
-        }
-        best = best.min(start.elapsed().as_nanos() as f64 / calls as f64);
-    }
-    best
 }
 
 fn column(height: usize, carries: usize, bit: usize, lits: &mut [u32], ends: &mut [u32]) {

@@ -1,4 +1,4 @@
-// Crate root of the benchmark: the Rust's modules as the judge has them, and the columns.
+// Crate root of the benchmark: the Rust's modules as the judge has them, the columns and the job files.
 
 mod arithmetic;
 mod domain;
@@ -12,4 +12,5 @@ use stubs::{config, custom_constraints, propagators};
 
 fn main() {
     encoder::columns::run();
+    encoder::jobs::run();
 }

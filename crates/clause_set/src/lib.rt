@@ -3,7 +3,7 @@
 ghost use mathlib.Core.Path.{_≡_};
 ghost use mathlib.Core.List.{[], _∷_, _++_};
 ghost use Prim.Native.Nat.{_+_, _-_, _^_, _≤_, _<_};
-ghost use lib.ListN.{length, set};
+ghost use lib.ListN.{getD, length, set};
 ghost use Rattle.clause_set.specs.Bytes.{clause-holds, lit-holds};
 ghost use Rattle.clause_set.specs.Clause.{clause-lits};
 ghost use Rattle.clause_set.specs.Stores.{Fits, Within, add-clauses, after, part};
@@ -74,6 +74,13 @@ pub fn put(store: &mut [u32], i: usize, x: u32)
     if i < store.len() {
         store[i] = x;
     }
+}
+
+// The entry at i, 0 past the end.
+pub fn entry(store: &[u32], i: usize) -> u32
+    ensures { λ r. ⌜ r ≡ getD (now (store .entry)) i 0 ⌝ }
+{
+    if i < store.len() { store[i] } else { 0 }
 }
 
 // Where a free tail begins that is lent on: past a store's end nothing is lent.

@@ -7,12 +7,12 @@
 mod print; // print.rt: what is printed
 
 use clause_set::Counts;
+use clause_set::entry;
 use libc::STDIN_FILENO;
 use log_adder::AdderInput;
 use log_adder::AdderState;
 use log_adder2::EqInput;
 use mixed::LinearInfo;
-use print::entry;
 use print::show;
 use print::show_clauses;
 use print::show_number;

@@ -2,12 +2,8 @@
 ghost use mathlib.Core.Path.{_≡_};
 ghost use Prim.Native.Nat.{_≤_, _<_};
 use clause_set::Counts;
+use clause_set::entry;
 use libc::STDOUT_FILENO;
-
-// Entry i, or 0 past the end.
-pub fn entry(s: &[u32], i: usize) -> u32 {
-    if i < s.len() { s[i] } else { 0 }
-}
 
 pub fn show(line: &[u8]) {
     io::write_all(STDOUT_FILENO, line);

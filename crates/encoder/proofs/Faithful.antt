@@ -10,6 +10,7 @@ use native.Mathlib.Omega.{arith}
 use borrow.Author.Tests.{eqb-false, eqb-true, le-leb}
 use Rattle.sat.specs.Clause.{Assignment, Clauses, sat}
 use Rattle.sat.specs.Encodes.{Agree, ClausesBelow, LitsBelow}
+use Rattle.sat.specs.Size.{entries}
 use Rattle.sat.proofs.Extend.{sat-agree}
 use Rattle.clause_set.specs.Bytes.{Bits, IsAssignment, all-hold}
 use Rattle.clause_set.proofs.Bytes.{all-hold-sat, bytes-unique, getD-within, to-bytes, to-bytes-agree, to-bytes-assign, truth}
@@ -189,7 +190,7 @@ reading-left s x bytes = settled-left (status-of (read-checks (s .env) (length (
 clause-left : (s : State) (k : ℕ) → left (outcome s (clause k)) ≡ s
 clause-left s k = settled-left (status-of (clause-checks (s .env) (length (s .lits)) (s .ends) k)) s (clause-read (s .env) (s .lits) (s .ends) k) (λ e. refl)
 
-call-refused : (s : State) (c : Call) → (outcome s c .status ≡ 0 → ⊥) → left (outcome s c) ≡ s
+pub call-refused : (s : State) (c : Call) → (outcome s c .status ≡ 0 → ⊥) → left (outcome s c) ≡ s
 call-refused s (encode-range low high) h = setting-refused s (range low high) h
 call-refused s (encode-list ks) h = setting-refused s (list ks) h
 call-refused s (encode-binary c f t) h = setting-refused s (binary c f t) h
@@ -228,10 +229,21 @@ run-kept s b cs inv (c ∷ calls) =
     let (ds, next) = call-kept s b cs inv c in
     run-kept (left (outcome s c)) (feed b (record { call = c; status = outcome s c .status })) ds next calls
 
-pub grown-kept : (switches : ℕ) (lits ends : List ℕ) → open-outcome switches lits ends .status ≡ 0 → (calls : List Call)
-    → (let start = left (open-outcome switches lits ends) in (ds : Clauses) × Invariant (run start calls) (book (begun switches) (answered start calls)) ds)
-grown-kept switches lits ends h calls =
-    run-kept (left (open-outcome switches lits ends)) (begun switches) [] (opened-invariant switches lits ends h) calls
+module _ (switches : ℕ) (lits ends : List ℕ) (opened : open-outcome switches lits ends .status ≡ 0) (calls : List Call) where
+  abbrev end : State
+  end = run (left (open-outcome switches lits ends)) calls
+
+  invariant : (ds : Clauses) × Invariant end (book (begun switches) (answered (left (open-outcome switches lits ends)) calls)) ds
+  invariant = run-kept (left (open-outcome switches lits ends)) (begun switches) [] (opened-invariant switches lits ends opened) calls
+
+  -- of the clauses written: their literals are of the job's variables, and they take all literal entries in use, each once
+  pub written-known : Kept (end .env) (length (end .lits)) (length (end .ends)) × ClausesBelow (end .env .variables) (written end) × (entries (written end) ≡ end .env .literals)
+  written-known =
+      let (ds, inv) = invariant in (
+        kept (end .env) (length (end .lits)) (length (end .ends)) (inv .well),
+        subst (ClausesBelow (end .env .variables)) (sym (inv .held)) (inv .below),
+        ap entries (inv .held) ∙ inv .counted,
+      )
 
 pub demand-3 : Demand3
-demand-3 switches lits ends h calls = let (ds, inv) = grown-kept switches lits ends h calls in faithful _ _ ds inv
+demand-3 switches lits ends h calls = let (ds, inv) = invariant switches lits ends h calls in faithful _ _ ds inv

@@ -15,7 +15,7 @@ use Rattle.sat.specs.Encodes.{Agree, ClausesBelow}
 use Rattle.sat.proofs.Number.{code-agree}
 use Rattle.sat.specs.Size.{entries}
 use Rattle.clause_set.specs.Stores.{Sound, add-clauses, clauses-of, stores}
-use Rattle.clause_set.proofs.Adding.{count-after, used-after}
+use Rattle.clause_set.proofs.Adding.{count-after, entries-append, used-after}
 use Rattle.clause_set.proofs.ReadBack.{read-back}
 use Rattle.norm_csp.specs.NormCsp.{NormCsp, Satisfied, begun}
 use Rattle.norm_csp.proofs.NormCsp.{Known}
@@ -37,7 +37,7 @@ use Rattle.encoder.specs.Run.{State, left}
 -- it comes about in one way.
 pub record Invariant (s : State) (b : NormCsp) (cs : Clauses) : Type 0 where
   pub held : written s ≡ cs
-  pub size : entries cs ≡ s .env .literals
+  pub counted : entries cs ≡ s .env .literals
   pub ends-sound : Sound (stores-of s)
   pub well : well-formed (s .env) (length (s .lits)) (length (s .ends)) ≡ true
   pub long : length (s .env .encodings) ≡ 32
@@ -67,13 +67,13 @@ after-adding s ds job = let filled = add-clauses 0 ds (stores-of s) in record { 
 
 pub more-written : (s : State) (b : NormCsp) (cs : Clauses) → Invariant s b cs → (status : ℕ) (ds : Clauses) (job : EncoderEnv)
     → Accepted status (s .env) (s .lits) (s .ends) ds job → job .literals ≡ s .env .literals + entries ds → job .clauses ≡ s .env .clauses + length ds
-    → (written (after-adding s ds job) ≡ cs ++ ds) × Sound (stores-of (after-adding s ds job))
+    → (written (after-adding s ds job) ≡ cs ++ ds) × Sound (stores-of (after-adding s ds job)) × (entries (cs ++ ds) ≡ job .literals)
 more-written s b cs inv status ds job a l c =
     let filled = add-clauses 0 ds (stores-of s) in
     let same : filled ≡ stores-of (after-adding s ds job) =
     λ i. stores (filled .lits) (filled .ends) ((used-after 0 ds (stores-of s) ∙ sym l) i) ((count-after 0 ds (stores-of s) ∙ sym c) i) in
     let back = read-back ds (stores-of s) (inv .ends-sound) (a .lits-fit) (omega (arith, a .ends-fit)) in
-    (ap clauses-of (sym same) ∙ back .0 ∙ ap (λ (d : Clauses). d ++ ds) (inv .held), subst Sound same (back .1))
+    (ap clauses-of (sym same) ∙ back .0 ∙ ap (λ (d : Clauses). d ++ ds) (inv .held), subst Sound same (back .1), omega (arith, entries-append cs ds, inv .counted, l))
 
 -- The opening --------------------------------------------------------------------------------------------------------
 
@@ -92,7 +92,7 @@ module _ (n : ℕ) (lits ends : List ℕ) where
       let many : length (set ends 0 0) ≡ length ends = length-set ends 0 0 in
       record {
         held = refl;
-        size = refl;
+        counted = refl;
         ends-sound =
             record {
               last-end = first;

@@ -3,3 +3,4 @@ pub mod SettingKept
 pub mod RuleKept
 pub mod Faithful
 pub mod Bench
+pub mod Lengths

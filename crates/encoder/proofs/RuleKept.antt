@@ -1,18 +1,16 @@
 -- An accepted rule keeps the invariant (`sum-kept`, `product-kept`): its clauses say exactly that it holds of the numbers read.
-use Prim.Native.Nat.{_+_, _<_, ℕ}
+use Prim.Native.Nat.{_<_, ℕ}
 use lib.IntN.{ℤ}
 use lib.ListN.{length}
 use mathlib.Core.Bool.{So}
 use mathlib.Core.List.{List, [], _++_, _∷_}
-use mathlib.Core.Path.{_∙_, _≡_, ap, refl, subst, sym}
+use mathlib.Core.Path.{_∙_, _≡_, refl, subst, sym}
 use native.Mathlib.Omega.{arith}
 use Rattle.sat.specs.Clause.{Assignment, Clauses, sat}
 use Rattle.sat.specs.Encoded.{EncodedRule}
 use Rattle.sat.specs.Encodes.{Agree}
 use Rattle.sat.proofs.Clauses.{sat-both}
 use Rattle.sat.proofs.Extend.{agree-less, agree-trans, clauses-below-append, clauses-below-more, sat-agree}
-use Rattle.sat.specs.Size.{entries}
-use Rattle.clause_set.proofs.Adding.{entries-append}
 use Rattle.norm_csp.specs.NormCsp.{Constraint, Holds, NormCsp, Satisfied, add-constraint, linear, mul}
 use Rattle.norm_csp.specs.Rules.{LinearTerm, op-of, terms-of}
 use Rattle.norm_csp.proofs.NormCsp.{KnownConstraint, KnownTerms, holds-same, rule-known, rule-less, rule-more}
@@ -58,7 +56,7 @@ module _ (s : State) (b : NormCsp) (cs : Clauses) (inv : Invariant s b cs) (c : 
       let stored = more-written s b cs inv status ds job (a .accepted) refl refl in
       record {
         held = stored .0;
-        size = entries-append cs ds ∙ ap (λ (n : ℕ). n + entries ds) (inv .size);
+        counted = stored .2;
         ends-sound = stored .1;
         well = rule-well-formed status (s .env) (s .lits) (s .ends) out (λ α. Holds (number (s .env) α) c) a;
         long = inv .long;

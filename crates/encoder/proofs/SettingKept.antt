@@ -1,5 +1,5 @@
 -- An accepted setting call keeps the invariant (`setting-kept`).
-use Prim.Native.Nat.{_+_, _<_, ℕ}
+use Prim.Native.Nat.{_<_, ℕ}
 use lib.Dec.{eqb}
 use lib.IntN.{ℤ}
 use lib.ListN.{length, length-set}
@@ -12,8 +12,6 @@ use Rattle.sat.specs.Clause.{Assignment, Clauses, sat}
 use Rattle.sat.specs.Encodes.{Agree}
 use Rattle.sat.proofs.Clauses.{sat-both}
 use Rattle.sat.proofs.Extend.{agree-less, agree-trans, clauses-below-append, clauses-below-more, sat-agree}
-use Rattle.sat.specs.Size.{entries}
-use Rattle.clause_set.proofs.Adding.{entries-append}
 use Rattle.norm_csp.specs.Domain.{IntVarRepresentation, IsValue}
 use Rattle.norm_csp.specs.NormCsp.{NormCsp, Satisfied, add-var}
 use Rattle.norm_csp.proofs.NormCsp.{KnownVar, known-more, one-less, one-more, satisfied-agree, value-agree, vars-more}
@@ -112,7 +110,7 @@ module _ (s : State) (b : NormCsp) (cs : Clauses) (inv : Invariant s b cs) (repr
       let stored = more-written s b cs inv _ ds (with-encoding (s .env) out) (a .accepted) refl refl in
       record {
         held = stored .0;
-        size = entries-append cs ds ∙ ap (λ (n : ℕ). n + entries ds) (inv .size);
+        counted = stored .2;
         ends-sound = stored .1;
         well = setting-well-formed (s .env) (s .lits) (s .ends) repr a (inv .long);
         long = length-set (s .env .encodings) (s .env .count) (record-of (out .encoding)) ∙ inv .long;

@@ -1,10 +1,10 @@
 // The opening of a job, the reading of a setting and the handing back of a clause.
 ghost use mathlib.Core.Path.{_≡_};
-ghost use lib.ListN.{getD};
 ghost use Prim.Native.Nat.{_+_, _<_};
 ghost use Rattle.encoder_answer.specs.Outcome.{Answers, status-of};
 ghost use Rattle.encoder_read.specs.Calls.{all-bits, clause-checks, clause-outcome, open-checks, open-outcome, opened, read-checks, read-outcome};
 use clause_set::clause_part;
+use clause_set::entry;
 use encoder_answer::Answer;
 use encoder_answer::refusal;
 use encoder_env::EncoderEnv;
@@ -64,13 +64,6 @@ pub fn open(switches: u32, lits: &mut [u32], ends: &mut [u32]) -> Answer
         env: opened(switches),
         value: 0,
     }
-}
-
-// The entry at i, 0 past the end.
-fn entry(store: &[u32], i: usize) -> u32
-    ensures { λ r. ⌜ r ≡ getD (now (store .entry)) i 0 ⌝ }
-{
-    if i < store.len() { store[i] } else { 0 }
 }
 
 // The first check of every call but `open`, then those of the clause's number and ends.

@@ -2,9 +2,10 @@
 use mathlib.Core.Path.{_≡_, refl, ap}
 use mathlib.Core.Bool.{Bool, true, false}
 use mathlib.Core.List.{List, [], _∷_, _++_}
-use Prim.Native.Nat.{ℕ, zero, suc, _+_, _-_, _*_, _/_, _%_, _≤_, _<_}
+use Prim.Native.Nat.{ℕ, zero, suc, _+_, _-_, _*_, _/_, _%_, _^_, _≤_, _<_}
 use native.Mathlib.Omega.{arith}
 use lib.Dec.{ltb}
+use lib.ListN.{length, length-append}
 use borrow.Author.Tests.{lt-ltb, le-ltb, ltb-true, ltb-false}
 use Rattle.text.specs.Bytes.{Text, write}
 use Rattle.text.specs.Decimal.{digits, decimal, digits-value}
@@ -31,6 +32,18 @@ pub decimal-more : (n : ℕ) → 10 ≤ n → decimal n ≡ decimal (n / 10) ++ 
 unfolding decimal digits
 decimal-more n h =
     rw (le-ltb n 10 h) (ap (λ (l : List ℕ). l ++ ((48 + n % 10) ∷ [])) (more-digits n (suc (n / 10)) (n / 10) (omega arith) (omega arith)))
+
+-- a number below 10 ^ (k + 1) has at most k + 1 digits
+pub decimal-length : (k n : ℕ) → n < 10 ^ suc k → length (decimal n) ≤ suc k
+decimal-length zero n h = rw (decimal-digit n h) (omega arith)
+decimal-length (suc k) n h = by (ltb n 10) refl (decimal-length k (n / 10))
+  where
+    by : (b : Bool) → ltb n 10 ≡ b → (n / 10 < 10 ^ suc k → length (decimal (n / 10)) ≤ suc k) → length (decimal n) ≤ suc (suc k)
+    by true e f = rw (decimal-digit n (ltb-true n 10 e)) (omega arith)
+    by false e f =
+        let t : 10 ≤ n = ltb-false n 10 e in
+        let s = f (omega arith) in
+        rw (decimal-more n t, length-append) (omega (arith, s))
 
 pub digits-value-append : (a : List ℕ) (n : ℕ) (b : List ℕ) → digits-value n (a ++ b) ≡ digits-value (digits-value n a) b
 unfolding digits-value

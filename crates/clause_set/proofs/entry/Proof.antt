@@ -1,9 +1,9 @@
--- `encoder::entry` meets its contract.
+-- `clause_set::entry` meets its contract.
 use borrow.Author.Needs.{needs}
 use mathlib.Core.Path.{sym}
 use lib.ListN.{List·getD-eq-default}
-use Rattle.encoder_read.proofs.entry.Statement.{statement}
-use Rattle.encoder_read.proofs.entry.Tie as tie
+use Rattle.clause_set.proofs.entry.Statement.{statement}
+use Rattle.clause_set.proofs.entry.Tie as tie
 
 mul-result : tie.Need-mul-result
 mul-result c = search needs

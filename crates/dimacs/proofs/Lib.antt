@@ -1,0 +1,4 @@
+pub mod Examples
+pub mod Parts
+pub mod Printing
+pub mod Sizes

@@ -1,0 +1,131 @@
+// The print of a job's clauses as DIMACS, and of a refusal, into a lent slice. Each `put_..` answers the
+// place behind what it wrote.
+ghost use mathlib.Core.Path.{_≡_};
+ghost use Rattle.text.specs.Bytes.{text as text-of, write};
+ghost use Rattle.clause_set.specs.Stores.{clause-at, clauses-from};
+ghost use Rattle.dimacs.specs.Dimacs.{clause, clauses, highest-in, highest-variable, line, literal, number, print-of, refused};
+use clause_set::clause_part;
+use clause_set::entry;
+use clause_set::within;
+use encoder_env::EncoderEnv;
+use sat::Lit;
+
+// The number that a literal's variable is printed as.
+fn number(l: Lit) -> u32
+    ensures { λ r. ⌜ r ≡ number (l .0) ⌝ }
+{
+    let v = l.var();
+    v.0 + 1
+}
+
+// A literal: the number of its variable, a minus before it if negated.
+fn put_literal(out: &mut [u8], at: usize, l: Lit) -> usize
+    ensures { λ r. ⌜ text-of (now (out .exit)) r ≡ write (text-of (now (out .entry)) at) (literal (l .0)) ⌝ }
+{
+    let n = number(l);
+    if l.is_negated() {
+        let to = text::put(out, at, b'-');
+        return text::put_decimal(out, to, n);
+    }
+    text::put_decimal(out, at, n)
+}
+
+// A clause, handed over as a part of the literal store.
+pub fn put_clause(out: &mut [u8], at: usize, part: &[u32]) -> usize
+    ensures { λ r. ⌜ text-of (now (out .exit)) r ≡ write (text-of (now (out .entry)) at) (clause (now (part .entry))) ⌝ }
+{
+    let mut to = at;
+    let mut i: usize = 0;
+    while i < part.len() {
+        let l = Lit(part[i]);
+        to = put_literal(out, to, l);
+        to = text::put(out, to, b' ');
+        i += 1;
+    }
+    to = text::put(out, to, b'0');
+    text::put(out, to, b'\n')
+}
+
+// Clause k as the stores hold it: empty where its ends fall, cut where they pass the literal store.
+fn clause_at<'a>(lits: &'a [u32], ends: &[u32], k: u32) -> &'a [u32]
+    ensures { λ r. ⌜ now r ≡ clause-at (now (lits .entry)) (now (ends .entry)) k ⌝ }
+{
+    let begin = entry(ends, k as usize);
+    let end = entry(ends, k as usize + 1);
+    let to = within(end as usize, lits.len());
+    let from = within(begin as usize, to);
+    clause_part(lits, from, to)
+}
+
+// The clauses below `count`.
+fn put_clauses(out: &mut [u8], at: usize, lits: &[u32], ends: &[u32], count: u32) -> usize
+    ensures { λ r. ⌜ text-of (now (out .exit)) r ≡ write (text-of (now (out .entry)) at) (clauses (clauses-from (now (lits .entry)) (now (ends .entry)) 0 count)) ⌝ }
+{
+    let mut to = at;
+    let mut k: u32 = 0;
+    while k < count {
+        to = put_clause(out, to, clause_at(lits, ends, k));
+        k += 1;
+    }
+    to
+}
+
+// The highest variable in a clause, plus 1.
+fn highest_in(part: &[u32]) -> u32
+    ensures { λ r. ⌜ r ≡ highest-in (now (part .entry)) ⌝ }
+{
+    let mut most: u32 = 0;
+    let mut i: usize = 0;
+    while i < part.len() {
+        let n = number(Lit(part[i]));
+        if most < n {
+            most = n;
+        }
+        i += 1;
+    }
+    most
+}
+
+// The highest variable in the clauses below `count`, plus 1.
+fn highest_variable(lits: &[u32], ends: &[u32], count: u32) -> u32
+    ensures { λ r. ⌜ r ≡ highest-variable (clauses-from (now (lits .entry)) (now (ends .entry)) 0 count) ⌝ }
+{
+    let mut most: u32 = 0;
+    let mut k: u32 = 0;
+    while k < count {
+        let v = highest_in(clause_at(lits, ends, k));
+        if most < v {
+            most = v;
+        }
+        k += 1;
+    }
+    most
+}
+
+// A word, two numbers with a space between them, and a line feed.
+fn put_line(out: &mut [u8], word: &[u8], a: u32, b: u32) -> usize
+    ensures { λ r. ⌜ text-of (now (out .exit)) r ≡ write (text-of (now (out .entry)) 0) (line (now (word .entry)) a b) ⌝ }
+{
+    let mut to = text::put_bytes(out, 0, word);
+    to = text::put_decimal(out, to, a);
+    to = text::put(out, to, b' ');
+    to = text::put_decimal(out, to, b);
+    text::put(out, to, b'\n')
+}
+
+// The print of a job and its stores, from the start of `out`. What passes the end of `out` is dropped, and the answer is then its length.
+pub fn put_dimacs(out: &mut [u8], env: EncoderEnv, lits: &[u32], ends: &[u32]) -> usize
+    ensures { λ r. ⌜ text-of (now (out .exit)) r ≡ write (text-of (now (out .entry)) 0) (print-of env (now (lits .entry)) (now (ends .entry))) ⌝ }
+{
+    let count = env.clauses;
+    let v = highest_variable(lits, ends, count);
+    let to = put_line(out, b"p cnf ", v, count);
+    put_clauses(out, to, lits, ends, count)
+}
+
+// The line of a refusal: field index and number.
+pub fn put_refused(out: &mut [u8], field: u32, status: u32) -> usize
+    ensures { λ r. ⌜ text-of (now (out .exit)) r ≡ write (text-of (now (out .entry)) 0) (refused field status) ⌝ }
+{
+    put_line(out, b"refused ", field, status)
+}

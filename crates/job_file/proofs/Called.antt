@@ -1,0 +1,90 @@
+-- What the code's calls come to: the call of each tag, on its contents.
+use Prim.Native.Nat.{_*_, _-_, _/_, _≤_, ℕ}
+use native.Mathlib.Omega.{arith}
+use mathlib.Core.Path.{_≡_, refl, sym}
+use mathlib.Core.Bool.{Bool, cond, false, true, true≢false}
+use mathlib.Core.List.{List}
+use lib.Dec.{eqb}
+use lib.IntN.{pos, ℤ}
+use lib.ListN.{drop, getD, length, length-drop, take}
+use lib.Seq.{take-all}
+use borrow.Author.Tests.{eqb-true, ne-eqb}
+use Rattle.norm_csp.specs.Domain.{binary, list, range}
+use Rattle.encoder_env.specs.declared.EncoderEnv.{EncoderEnv}
+use Rattle.encoder_answer.specs.declared.Answer.{Answer}
+use Rattle.encoder_read.specs.Calls.{open-outcome}
+use Rattle.encoder_var.specs.Settings.{setting-outcome}
+use Rattle.encoder_answer.specs.Outcome.{Answers}
+use Rattle.encoder_mul.specs.Products.{mul-outcome}
+use Rattle.encoder_linear.specs.Sums.{linear-outcome}
+use Rattle.job_file.specs.Numbers.{signed-long, signed-word, terms, values, word-at}
+use Rattle.job_file.specs.Fields.{call-of, field, right-length, right-place, switches-in}
+use Rattle.job_file.specs.Run.{called, field-outcome, state}
+
+module _ (env : EncoderEnv) (lits ends s : List ℕ) {a : Answer} {l e : List ℕ} where
+  pub open-called : Answers (open-outcome (switches-in s) lits ends) a l e → Answers (called (state env lits ends) 1 s) a l e
+  unfolding called
+  open-called h = h
+
+  pub range-called : {low high : ℤ} → low ≡ signed-word s 0 → high ≡ signed-word s 2
+      → Answers (setting-outcome env lits ends (range low high)) a l e → Answers (called (state env lits ends) 2 s) a l e
+  unfolding called call-of
+  range-called p q h = rw (← p, ← q) h
+
+  pub list-called : {ks : List ℤ} → ks ≡ values s
+      → Answers (setting-outcome env lits ends (list ks)) a l e → Answers (called (state env lits ends) 3 s) a l e
+  unfolding called call-of
+  list-called p h = rw (← p) h
+
+  pub binary-called : {c : ℕ} {f t : ℤ} → c ≡ word-at s 0 → f ≡ signed-word s 2 → t ≡ signed-word s 4
+      → Answers (setting-outcome env lits ends (binary c f t)) a l e → Answers (called (state env lits ends) 4 s) a l e
+  unfolding called call-of
+  binary-called p q r h = rw (← p, ← q, ← r) h
+
+  pub linear-called : {op : ℕ} {k : ℤ} {ts : List ℤ} → op ≡ getD s 0 0 → k ≡ signed-long s 1 → ts ≡ terms (drop 5 s)
+      → Answers (linear-outcome env lits ends op k ts) a l e → Answers (called (state env lits ends) 5 s) a l e
+  unfolding called call-of
+  linear-called p q r h = rw (← p, ← q, ← r) h
+
+  pub mul-called : {x y m : ℕ} → x ≡ getD s 0 0 → y ≡ getD s 1 0 → m ≡ getD s 2 0
+      → Answers (mul-outcome env lits ends x y m) a l e → Answers (called (state env lits ends) 6 s) a l e
+  unfolding called call-of
+  mul-called p q r h = rw (← p, ← q, ← r) h
+
+  pub tag-called : (t k : ℕ) → t ≡ k → Answers (called (state env lits ends) k s) a l e → Answers (called (state env lits ends) t s) a l e
+  tag-called t k p h = rw p h
+
+  -- a field in its right place and of a right length is its call
+  pub field-called : (index t : ℕ) → right-place index t ≡ true → right-length t (length s) ≡ true
+      → Answers (called (state env lits ends) t s) a l e → Answers (field-outcome index (state env lits ends) (field t s)) a l e
+  unfolding field-outcome
+  field-called index t p q h = rw (p, q) h
+
+-- else it is refused
+module _ (env : EncoderEnv) (lits ends s : List ℕ) {a : Answer} where
+  pub field-wrong-place : (index t : ℕ) → right-place index t ≡ false → a ≡ record { status = 18; env = env; value = pos 0 }
+      → Answers (field-outcome index (state env lits ends) (field t s)) a lits ends
+  unfolding field-outcome
+  field-wrong-place index t p q = rw (q, p) (record { status = refl; env = refl; value = refl; lits = refl; ends = refl })
+
+  pub field-wrong-length : (index t : ℕ) → right-place index t ≡ true → right-length t (length s) ≡ false
+      → a ≡ record { status = 18; env = env; value = pos 0 } → Answers (field-outcome index (state env lits ends) (field t s)) a lits ends
+  unfolding field-outcome
+  field-wrong-length index t p r q = rw (q, p, r) (record { status = refl; env = refl; value = refl; lits = refl; ends = refl })
+
+-- the terms behind operation and constant
+pub linear-terms : (s : List ℕ) (xs : List ℤ) → 5 ≤ length s
+    → take (2 * (length (take (length s - 5) (drop 5 s)) / 3)) xs ≡ terms (take (length s - 5) (drop 5 s))
+    → take (2 * ((length s - 5) / 3)) xs ≡ terms (drop 5 s)
+linear-terms s xs h e =
+    let w : take (length s - 5) (drop 5 s) ≡ drop 5 s = take-all (length s - 5) (drop 5 s) (rw length-drop (omega arith)) in
+    rw (w, length-drop 5 s) at e
+
+-- no other tag has a right length
+pub tag-6 : (t n : ℕ) → (t ≡ 1 → ⊥) → (t ≡ 2 → ⊥) → (t ≡ 3 → ⊥) → (t ≡ 4 → ⊥) → (t ≡ 5 → ⊥) → right-length t n ≡ true → (t ≡ 6) × (n ≡ 3)
+unfolding right-length
+tag-6 t n a b c d e h = go (eqb t 6) refl (rw (ne-eqb t 1 a, ne-eqb t 2 b, ne-eqb t 3 c, ne-eqb t 4 d, ne-eqb t 5 e) at h)
+  where
+    go : (x : Bool) → eqb t 6 ≡ x → cond x (eqb n 3) false ≡ true → (t ≡ 6) × (n ≡ 3)
+    go true p g = (eqb-true t 6 p, eqb-true n 3 g)
+    go false p g = absurd (true≢false (sym g))

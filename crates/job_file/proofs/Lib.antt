@@ -1,0 +1,7 @@
+pub mod NumbersRead
+pub mod Places
+pub mod Called
+pub mod Refused
+pub mod Running
+pub mod AcceptedRun
+pub mod Examples

@@ -1,0 +1,5 @@
+pub mod Numbers
+pub mod Fields
+pub mod Run
+pub mod Places
+pub mod Accepted
