@@ -140,10 +140,15 @@ fn tall_sums(op: i32, high: i32) -> Vec<Call> {
     calls
 }
 
-fn products(low: i32, high: i32) -> Vec<Call> {
-    let mut calls = ranges(6, low, high);
-    calls.push(Call::Range(if low < 0 { -3_000 } else { 0 }, if low < 0 { 1_000 } else { 4_000 }));
-    for (x, y) in [(0, 1), (2, 3), (4, 5), (1, 4)] {
+/// Four products of settings of 7 bits each, the first of which starts at `low`.
+fn products(low: i32) -> Vec<Call> {
+    let mut calls = vec![];
+    for _ in 0..3 {
+        calls.push(Call::Range(low, low + 99));
+        calls.push(Call::Range(0, 99));
+    }
+    calls.push(if low < 0 { Call::Range(-3_000, 1_000) } else { Call::Range(0, 4_000) });
+    for (x, y) in [(0, 1), (2, 3), (4, 5), (4, 1)] {
         calls.push(Call::Mul(x, y, 6));
     }
     calls
@@ -162,8 +167,8 @@ pub fn run() {
         ("Eq of six settings of 7 bits, height 11", tall_sums(0, 127)),
         ("Ne of six settings of 7 bits", tall_sums(1, 127)),
         ("Ge of six settings of 7 bits", tall_sums(2, 127)),
-        ("products of 7 by 7 bits, height 12", products(0, 99)),
-        ("products of 7 by 7 bits with offsets", products(-50, 49)),
+        ("products of 7 by 7 bits, height 12", products(0)),
+        ("products of 7 by 7 bits with offsets", products(-50)),
         ("lists of 4 values, 4,000 codes missing", lists()),
     ] {
         workload(name, &calls, &mut lits, &mut ends);

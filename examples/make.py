@@ -5,7 +5,7 @@ import sys
 from pathlib import Path
 
 sys.path.insert(0, str(Path(__file__).resolve().parent.parent / "oracle"))
-from jobfiles import TAGS, contents, field
+from jobfiles import field
 
 EQ, NE, GE = 0, 1, 2
 
@@ -52,8 +52,7 @@ SHEETS = {
 def main():
     directory = Path(sys.argv[1] if len(sys.argv) > 1 else Path(__file__).parent)
     for name, calls in SHEETS.items():
-        fields = [field(TAGS[word], contents(word, numbers)) for word, *numbers in calls]
-        (directory / f"{name}.job").write_bytes(b"".join(fields))
+        (directory / f"{name}.job").write_bytes(b"".join(field(*call) for call in calls))
 
 
 if __name__ == "__main__":

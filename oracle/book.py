@@ -5,6 +5,7 @@ that reads back as it, and every satisfying assignment reads back as such a choi
 """
 
 from itertools import product
+from math import prod
 
 OPERATIONS = [lambda n: n == 0, lambda n: n != 0, lambda n: n >= 0]
 
@@ -34,6 +35,16 @@ class Book:
         elif word == "mul":
             x, y, m = numbers
             self.rules.append(lambda values: values[x] * values[y] == values[m])
+
+    def size(self):
+        """How many choices there are, rules aside."""
+        off = [0] * self.switches
+        return 2**self.switches * prod(len(setting(off)) for setting in self.settings)
+
+    def met_by(self, switches, values):
+        """Whether a choice is one, and meets all rules."""
+        given = all(value in setting(switches) for value, setting in zip(values, self.settings))
+        return given and all(rule(values) for rule in self.rules)
 
     def choices(self):
         """Every choice that meets all rules: the switches, then the settings' numbers."""
@@ -88,18 +99,19 @@ def satisfying(clauses, fixed, variables):
         yield from satisfying(left, {**fixed, free: value}, variables)
 
 
-def read_back(calls):
-    """All satisfying assignments of a job, read back as choices."""
-    job = calls.job
-    clauses = [frozenset(calls.clause(k).part) for k in range(job.clauses)]
-    if frozenset() in clauses:
-        return []
-    found = []
-    for assignment in satisfying(clauses, {}, job.variables):
-        answers = [calls.read(s, assignment) for s in range(job.count)]
-        found.append((*assignment[: job.switches], *[answer.value for answer in answers]))
-    return found
+def read_back(calls, assignment):
+    """An assignment read back as a choice: the switches, then the settings' numbers."""
+    answers = [calls.read(setting, assignment) for setting in range(calls.job.count)]
+    return (*assignment[: calls.job.switches], *[answer.value for answer in answers])
 
 
-def agrees(calls, book):
-    return sorted(read_back(calls)) == sorted(book.choices())
+def written(calls):
+    """The clauses that the stores hold."""
+    return [calls.clause(k).part for k in range(calls.job.clauses)]
+
+
+def agrees(calls, clauses, book):
+    """Whether the clauses' satisfying assignments read back as the book's choices, one for each."""
+    sets = [frozenset(clause) for clause in clauses]
+    found = [] if frozenset() in sets else satisfying(sets, {}, calls.job.variables)
+    return sorted(read_back(calls, values) for values in found) == sorted(book.choices())

@@ -5,9 +5,10 @@ values of an accepted call are the Rust's.
 """
 
 from dataclasses import dataclass, field, replace
+from itertools import accumulate
 
 import checks
-from heights import linear_reached, mul_reached
+from heights import MAX_HEIGHT, linear_reached, mul_reached
 from job import BITS, MAX_STORE, MAX_VARIABLES, Job, Setting, well_formed
 
 
@@ -25,6 +26,9 @@ class Answer:
 
 class Calls:
     """A job and its lent stores; each call answers and leaves the job it returns."""
+
+    # the columns reached are gone through up to the first one above it
+    bound = MAX_HEIGHT
 
     def __init__(self, driver, store_lits, store_ends):
         self.driver = driver
@@ -67,20 +71,16 @@ class Calls:
         fits = job.literals + literals <= len(self.lits)
         if not (fits and job.clauses + clauses + 1 <= len(self.ends)):
             return Answer(15, reached=reached)
-        record, lengths, lits = self.driver.keep()
-        return self.write(variables, record, lengths, lits, reached)
+        return self.write(variables, *self.driver.keep(), reached)
 
-    def write(self, variables, record, lengths, lits, reached):
+    def write(self, variables, record, clauses, reached):
         """Adds clauses to the stores' free tails, and a setting to the job."""
         job = self.job
-        end, ends, clauses = 0, [], []
-        for length in lengths:
-            clauses.append(lits[end : end + length])
-            end += length
-            ends.append(job.literals + end)
-        self.lits[job.literals : job.literals + end] = lits
-        self.ends[job.clauses + 1 : job.clauses + 1 + len(ends)] = ends
-        counts = (job.switches, variables, job.clauses + len(ends), job.literals + end)
+        lits = [lit for clause in clauses for lit in clause]
+        ends = list(accumulate(map(len, clauses), initial=job.literals))
+        self.lits[job.literals : ends[-1]] = lits
+        self.ends[job.clauses + 1 : job.clauses + len(ends)] = ends[1:]
+        counts = (job.switches, variables, job.clauses + len(clauses), ends[-1])
         self.job = Job(*counts, job.count, job.settings)
         setting = None
         if record:
@@ -108,7 +108,7 @@ class Calls:
         if status:
             return Answer(status)
         pairs = [(self.job.settings[s], c) for s, c in zip(terms[0::2], terms[1::2])]
-        reached = linear_reached(op, constant, pairs)
+        reached = linear_reached(op, constant, pairs, self.bound)
         if reached.too_high():
             return Answer(13, reached=reached)
         return self.add("linear", [op, constant, *terms], reached)
@@ -117,7 +117,7 @@ class Calls:
         status = self.malformed() or checks.check_settings(self.job, [x, y, m])
         if status:
             return Answer(status)
-        reached = mul_reached(*[self.job.settings[s] for s in (x, y, m)])
+        reached = mul_reached(*[self.job.settings[s] for s in (x, y, m)], self.bound)
         if reached.too_high():
             return Answer(13, reached=reached)
         return self.add("mul", [x, y, m], reached)

@@ -1,4 +1,4 @@
-"""Counts what a script reaches: calls by number; accepted sums by operation, height and ending."""
+"""Counts what a script reaches: calls by number; accepted rules by height and ending; long runs."""
 
 from collections import Counter
 
@@ -6,44 +6,77 @@ from script import Script
 
 OPERATIONS = ("Eq", "Ne", "Ge")
 TALL = (11, 12)
+LONG = (30, 60, 120)
+COINCIDING = {(0, 0, 2): "x = y", (0, 1, 0): "x = m", (0, 1, 1): "y = m", (0, 0, 0): "x = y = m"}
 
 
 class Counted(Script):
-    """A script's run that counts its calls."""
+    """A script's run that counts its calls, and what they reach by rows and names."""
 
     def __init__(self, driver):
         super().__init__(driver)
         self.numbers = Counter()
-        self.sums = Counter()
-        self.operation = None
+        self.reached = Counter()
+        self.given = []
+        self.accepted = 0
 
     def line(self, line):
-        if line.startswith(b"linear "):
-            self.operation = line.split(b" ")[1]
+        word, *self.given = line.split(b" ")
+        if word == b"job":
+            self.accepted = 0
         return super().line(line)
 
     def answered(self, word, answer):
         self.numbers[word, answer.status] += 1
-        if word == "linear" and answer.status == 0:
-            self.sums.update(endings(OPERATIONS[int(self.operation)], answer))
+        self.count_run(word, answer.status)
+        if answer.status == 0 and word in ("linear", "mul"):
+            given = [int(number) for number in self.given]
+            endings = sum_endings if word == "linear" else self.product_endings
+            row = {"linear": "sums", "mul": "products"}[word]
+            self.reached.update((row, name) for name in endings(given, answer))
         return super().answered(word, answer)
 
+    def count_run(self, word, status):
+        """Accepted calls on one job, counted from its opening on."""
+        if word == "open":
+            self.accepted = 0
+        self.accepted += status == 0
+        if status == 0 and self.accepted in LONG:
+            self.reached["jobs", f"with {self.accepted} accepted calls and more"] += 1
 
-def endings(operation, answer):
-    """What an accepted sum is counted as."""
-    yield operation
+    def product_endings(self, given, answer):
+        """What an accepted product is counted as."""
+        offsets = any(self.calls.job.settings[setting].offset for setting in given)
+        kind = "with offsets" if offsets else "without offsets"
+        yield from common_endings(kind, answer)
+        if answer.reached.dead:
+            yield f"{kind}, dead end"
+        same = COINCIDING.get(tuple(given.index(setting) for setting in given))
+        if same:
+            yield f"{kind}, {same}"
+
+
+def common_endings(kind, answer):
+    yield kind
     height = answer.reached.greatest()
     if height in TALL:
-        yield f"{operation} of height {height}"
+        yield f"{kind} of height {height}"
+
+
+def sum_endings(given, answer):
+    """What an accepted sum is counted as."""
+    operation = OPERATIONS[given[0]]
+    yield from common_endings(operation, answer)
     if answer.reached.dead:
         yield f"dead end at column {len(answer.reached.heights) - 1}"
     elif operation == "Eq" and [] in answer.clauses:
         yield "Eq, last inequality empty"
 
 
-def report(numbers, sums):
-    for word in sorted({word for word, _ in numbers}):
-        rows = sorted((status, n) for (w, status), n in numbers.items() if w == word)
-        print(f"{word:8}" + "  ".join(f"{status}: {n}" for status, n in rows))
-    print("sums    " + "  ".join(f"{name}: {n}" for name, n in sorted(sums.items())))
-    print(f"calls   {sum(numbers.values())}")
+def report(numbers, reached):
+    """Prints each row of both tables, and how many calls there are."""
+    for counts in (numbers, reached):
+        for row in sorted({row for row, _ in counts}):
+            cells = sorted((name, n) for (r, name), n in counts.items() if r == row)
+            print(f"{row:10}" + "  ".join(f"{name}: {n}" for name, n in cells))
+    print(f"calls     {sum(numbers.values())}")

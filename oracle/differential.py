@@ -36,10 +36,23 @@ def difference(expected, got):
         return None
     rows = zip([*expected.split(b"\n"), None], [*got.split(b"\n"), None])
     number, (right, wrong) = next((i, row) for i, row in enumerate(rows, 1) if row[0] != row[1])
-    return f"line {number}: the judge {str(right)[:100]}, replay {str(wrong)[:100]}"
+    return f"line {number}: the judge {str(right)[:100]}, the program {str(wrong)[:100]}"
 
 
-def main():
+def answer_of(program, data):
+    """What a program prints for an input; one that fails is said to."""
+    answer = subprocess.run([program], input=data, capture_output=True, check=False)
+    return answer.stdout if answer.returncode == 0 else f"ended with {answer.returncode}".encode()
+
+
+def compare(driver, replay, data):
+    """The counts of a script's run by the judge, and where replay differs from it."""
+    judge, out = Counted(driver), io.StringIO()
+    judge.run(data, out)
+    return judge, difference(out.getvalue().encode(), answer_of(replay, data))
+
+
+def arguments_given():
     parser = argparse.ArgumentParser(description="Compares replay with the judge.")
     parser.add_argument("seeds", type=int, nargs="+", metavar="SEED")
     parser.add_argument("--count", type=int, default=300)
@@ -47,25 +60,26 @@ def main():
     parser.add_argument("--without", nargs="*", default=[], metavar="WORD")
     parser.add_argument("--replay", default=str(REPLAY), help="the program to compare")
     add_driver_option(parser)
-    options = parser.parse_args()
+    return parser.parse_args()
+
+
+def main():
+    options = arguments_given()
     driver = Driver(options.driver)
-    numbers, sums, differences = Counter(), Counter(), 0
+    numbers, reached, differences = Counter(), Counter(), 0
     for kind in [kind for kind in options.kind if not set(WEIGHTS[kind]) <= set(options.without)]:
         calls = 0
         for seed in options.seeds:
             data = script_of(driver, kind, seed, options.count, options.without)
-            judge, out = Counted(driver), io.StringIO()
-            judge.run(data, out)
-            answer = subprocess.run([options.replay], input=data, capture_output=True, check=False)
-            found = difference(out.getvalue().encode(), answer.stdout)
+            judge, found = compare(driver, options.replay, data)
             if found:
                 differences += 1
                 print(f"kind {kind}, seed {seed}, {found}")
             numbers += judge.numbers
-            sums += judge.sums
+            reached += judge.reached
             calls += sum(judge.numbers.values())
         print(f"{kind:10}{calls} calls", flush=True)
-    report(numbers, sums)
+    report(numbers, reached)
     print(f"scripts that differ: {differences}")
     driver.close()
     sys.exit(1 if differences else 0)

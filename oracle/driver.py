@@ -1,6 +1,7 @@
 """The Rust driver as a subprocess that is kept open."""
 
 import subprocess
+from itertools import accumulate
 
 
 class Driver:
@@ -41,9 +42,11 @@ class Driver:
         return [int(n) for n in answer.split()]
 
     def keep(self):
-        """Keeps the last call: the numbers of a new setting, clause lengths, literals."""
+        """Keeps the last call: the numbers of a new setting, and the clauses."""
         self.at = None
-        return [[int(n) for n in line.split()] for line in self.ask("keep", 3)]
+        record, lengths, lits = [[int(n) for n in line.split()] for line in self.ask("keep", 3)]
+        ends = list(accumulate(lengths, initial=0))
+        return record, [lits[begin:end] for begin, end in zip(ends, ends[1:])]
 
     def read(self, job, setting, assignment):
         self.hold(job)

@@ -12,15 +12,23 @@ EQ = 0
 
 @dataclass
 class Reached:
-    """Heights in the order of the columns, up to the first one above the bound."""
+    """Heights in the order of the columns, up to the first one above `bound`.
 
+    Beside them: whether it ended in a dead end, and how many ordering clauses were sent."""
+
+    bound: int = MAX_HEIGHT
     heights: list = field(default_factory=list)
     dead: bool = False
+    ordering: int = 0
 
     def add(self, height):
         """Notes a column; says whether the walk may go on."""
         self.heights.append(height)
-        return height <= MAX_HEIGHT
+        return height <= self.bound
+
+    def left(self):
+        """Whether a column above `bound` ended it."""
+        return self.greatest() > self.bound
 
     def too_high(self):
         return self.greatest() > MAX_HEIGHT
@@ -55,6 +63,7 @@ def walk_eq(reached, terms, constant):
         if carry_low > carry_high:
             reached.dead = True
             return
+        reached.ordering += max(0, carry_high - carry_low - 1)
 
 
 def walk_adder(reached, values, constant, columns):
@@ -79,29 +88,29 @@ def walk_adder(reached, values, constant, columns):
     return i
 
 
-def linear_reached(op, constant, terms):
+def linear_reached(op, constant, terms, bound=MAX_HEIGHT):
     """Columns of a sum; terms are (setting, coefficient)."""
     for setting, coefficient in terms:
         constant += setting.offset * coefficient
-    reached = Reached()
+    reached = Reached(bound)
     if op == EQ:
         walk_eq(reached, [(s.length, c) for s, c in terms], constant)
         return reached
     for sign in (1, -1):
         values = [(w, s.length) for s, c in terms if c * sign > 0 for w in weights(c)]
         walk_adder(reached, values, max(constant * sign, 0), 1)
-        if reached.too_high():
+        if reached.left():
             break
     return reached
 
 
-def mul_reached(x, y, m):
+def mul_reached(x, y, m, bound=MAX_HEIGHT):
     """Columns of a product: the multiplier's, then with offsets those of the equation."""
-    reached = Reached()
+    reached = Reached(bound)
     rows = [(i, y.length) for i in range(x.length)]
     offsets = x.offset != 0 or y.offset != 0 or m.offset != 0
     columns = walk_adder(reached, rows, 0, 0 if offsets else m.length)
-    if offsets and not reached.too_high():
+    if offsets and not reached.left():
         terms = [(columns, 1), (x.length, y.offset), (y.length, x.offset), (m.length, -1)]
         walk_eq(reached, terms, x.offset * y.offset - m.offset)
     return reached

@@ -5,6 +5,7 @@ from calls import Calls
 MAX_BYTES = 8_192
 STORES = (8_192, 4_096)
 BROKEN = 18
+WORDS = {1: "open", 2: "range", 3: "list", 4: "binary", 5: "linear", 6: "mul"}
 
 
 class Refused(Exception):
@@ -27,19 +28,15 @@ def term_list(data):
     return terms
 
 
-def call_field(calls, tag, data):
-    """Makes the call of a field whose length is right."""
-    if tag == 1:
-        return calls.open(data[0])
-    if tag == 2:
-        return calls.range(*signed_pairs(data))
-    if tag == 3:
-        return calls.list(signed_pairs(data))
+def numbers_of(tag, data):
+    """The numbers of a field whose length is right, in one flat list."""
+    if tag in (1, 6):
+        return list(data)
     if tag == 4:
-        return calls.binary(number(data[:2], False), *signed_pairs(data[2:]))
+        return [number(data[:2], False), *signed_pairs(data[2:])]
     if tag == 5:
-        return calls.linear(data[0], number(data[1:5], True), term_list(data[5:]))
-    return calls.mul(*data)
+        return [data[0], number(data[1:5], True), *term_list(data[5:])]
+    return signed_pairs(data)
 
 
 def right_length(tag, length):
@@ -50,22 +47,39 @@ def right_length(tag, length):
     return length == {1: 1, 2: 4, 4: 6, 6: 3}[tag]
 
 
-def run_fields(calls, data):
-    """Field after field: tag, length, call."""
+def fields(data):
+    """Word and numbers of each field in turn; one that cannot be read is refused."""
     index = at = 0
     while at < len(data) or index == 0:
         tag = data[at] if at < len(data) else 0
-        if not 1 <= tag <= 6 or (tag == 1) != (index == 0):
+        if tag not in WORDS or (tag == 1) != (index == 0):
             raise Refused(index, BROKEN)
         length = number(data[at + 1 : at + 3], False)
         contents = data[at + 3 : at + 3 + length]
         if at + 3 + length > len(data) or not right_length(tag, length):
             raise Refused(index, BROKEN)
-        answer = call_field(calls, tag, contents)
-        if answer.status != 0:
-            raise Refused(index, answer.status)
+        yield WORDS[tag], numbers_of(tag, contents)
         at += 3 + length
         index += 1
+
+
+def call(calls, word, numbers):
+    """Makes the call of a field."""
+    if word == "list":
+        return calls.list(numbers)
+    if word == "linear":
+        return calls.linear(*numbers[:2], numbers[2:])
+    return getattr(calls, word)(*numbers)
+
+
+def run_fields(calls, data):
+    """Field after field: tag, length, call."""
+    if len(data) > MAX_BYTES:
+        raise Refused(0, BROKEN)
+    for index, (word, numbers) in enumerate(fields(data)):
+        status = call(calls, word, numbers).status
+        if status != 0:
+            raise Refused(index, status)
 
 
 def dimacs(job, lits, ends):
@@ -79,14 +93,16 @@ def dimacs(job, lits, ends):
     return lines
 
 
-def run(driver, data, out):
-    calls = Calls(driver, *STORES)
+def answer(driver, data, kind=Calls):
+    """The print of a job file, and its calls on the stores of a job file."""
+    calls = kind(driver, *STORES)
     try:
-        if len(data) > MAX_BYTES:
-            raise Refused(0, BROKEN)
         run_fields(calls, data)
         lines = dimacs(calls.job, calls.lits, calls.ends)
     except Refused as refusal:
         lines = ["refused {} {}".format(*refusal.args)]
-    for line in lines:
-        out.write(line + "\n")
+    return "".join(line + "\n" for line in lines).encode(), calls
+
+
+def run(driver, data, out):
+    out.write(answer(driver, data)[0].decode())

@@ -5,8 +5,8 @@
                                        DIRECTORY/replay_lines (crates if absent)
 
 The script for replay is made of chapters (replay_chapters.py, replay_sums.py, replay_products.py),
-then of random scripts, and ends in a line that cannot be read. Each line for replay_lines is answered as a script
-of its own (replay_lines.py). What was reached is printed: calls by number, sums by operation.
+then of random scripts, and ends in a line that cannot be read. Each line for replay_lines is
+answered as a script of its own (replay_lines.py). What was reached is printed (coverage.py).
 """
 
 import argparse
@@ -70,7 +70,7 @@ def main():
     data = "".join(line + "\n" for line in lines + END).encode()
     script = Counted(driver)
     write(options.directory / "replay", data, answer(script, data))
-    report(script.numbers, script.sums)
+    report(script.numbers, script.reached)
     alone = replay_lines.lines()
     answers = [answer(Script(driver), line) for line in alone]
     write(options.directory / "replay_lines", b"\n".join(alone), b"".join(answers))

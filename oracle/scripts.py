@@ -4,6 +4,7 @@
 With --show, every job ends in `show`, so that all records and entries are compared. Words behind
 --without do not come up. Kinds:
   mixed     every call, mostly accepted ones, long runs on one job
+  long      every call, low columns, 150 lines on one job: the table is filled and rules go on
   settings  ranges, lists, two values, with readings and clauses
   linear    sums;  eq, ne, ge one operation only
   mul       products;  plain without offsets, shifted with offsets
@@ -35,6 +36,7 @@ RUN = 60
 # How often each kind draws each call.
 WEIGHTS = {
     "mixed": dict(range=4, list=2, binary=3, linear=8, mul=5, read=4, clause=2, edge=2),
+    "long": dict(range=2, list=2, binary=2, linear=5, mul=4, read=4, clause=1),
     "settings": dict(range=6, list=5, binary=5, read=4, clause=1),
     "linear": dict(linear=12, read=1, clause=1),
     "eq": dict(linear=1),
@@ -99,11 +101,11 @@ class Generator:
 
     def crowded(self):
         """Whether the job is old or full enough for a new one."""
-        most = {"small": 5, "space": 12, "forged": 30, "settings": 32}.get(self.kind, RUN)
+        runs = {"small": 5, "space": 12, "forged": 30, "settings": 32, "long": 150}
         calls = self.script.calls
         room = len(calls.lits) - self.job.literals
         full = room < 60_000 and self.kind not in ("small", "space", "forged")
-        return full or self.age >= most
+        return full or self.age >= runs.get(self.kind, RUN)
 
     def call_range(self):
         rng = self.rng
@@ -143,6 +145,7 @@ class Generator:
             "heights": lambda reached: 11 <= reached.greatest() <= 13,
             "dead": lambda reached: reached.dead and reached.greatest() >= least,
             "eq": lambda reached: reached.greatest() <= 12,
+            "long": lambda reached: reached.greatest() <= 6,
             "small": lambda reached: reached.greatest() <= 4,
         }.get(self.kind, lambda reached: reached.greatest() <= rng.choice([6, 9, 11, 12, 30]))
         ops = OPERATIONS.get(self.kind, (0, 1, 2))
@@ -160,6 +163,7 @@ class Generator:
             "plain": lambda chosen, reached: not self.shifted(chosen) and reached.greatest() <= 12,
             "shifted": lambda chosen, reached: self.shifted(chosen) and reached.greatest() <= 12,
             "same": lambda chosen, reached: len(set(chosen)) < 3 and reached.greatest() <= 12,
+            "long": lambda chosen, reached: reached.greatest() <= 6,
             "small": lambda chosen, reached: reached.greatest() <= 5,
         }.get(self.kind, lambda chosen, reached: reached.greatest() <= rng.choice([8, 12, 30]))
         return self.put("mul", *arguments.sought_product(rng, job, wanted))

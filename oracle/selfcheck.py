@@ -9,7 +9,7 @@ import io
 import random
 
 import jobfile
-from book import Book, agrees
+from book import Book, agrees, written
 from driver import Driver
 from judge import add_driver_option
 from script import Script
@@ -113,7 +113,8 @@ def check_job(driver, seed):
         answer = script.line(line.encode())
         if answer:
             book.feed(word, [int(n) for n in numbers], int(answer[0].split()[0]))
-    return agrees(script.calls, book), len(book.rules), len(book.choices()), lines
+    right = agrees(script.calls, written(script.calls), book)
+    return right, len(book.rules), len(book.choices()), lines
 
 
 def main():

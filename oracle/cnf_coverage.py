@@ -1,0 +1,40 @@
+"""Counts what job files reach: refusals by number, fields of accepted ones, mistakes told apart."""
+
+from collections import Counter
+
+import jobfile
+from mistakes import told_apart
+
+
+class Counted:
+    """The judge's answers to job files, counted."""
+
+    def __init__(self, driver):
+        self.driver = driver
+        self.files = Counter()
+        self.refusals = Counter()
+        self.fields = Counter()
+        self.mistakes = Counter()
+
+    def answer(self, name, data):
+        """The print of a file; it is counted under a name."""
+        text, _ = jobfile.answer(self.driver, data)
+        accepted = not text.startswith(b"refused")
+        self.files[name, "accepted" if accepted else "refused"] += 1
+        if accepted:
+            self.fields.update(word for word, _ in jobfile.fields(data))
+        else:
+            self.refusals[int(text.split()[2])] += 1
+        self.mistakes.update(told_apart(self.driver, data, text))
+        return text
+
+    def report(self):
+        for name in dict.fromkeys(name for name, _ in self.files):
+            accepted, refused = self.files[name, "accepted"], self.files[name, "refused"]
+            print(f"{name:46}accepted: {accepted:5}  refused: {refused:5}")
+        print(f"files: {sum(self.files.values())}, refused: {sum(self.refusals.values())}")
+        rows = {"refused by number": self.refusals, "fields of accepted files": self.fields}
+        for title, counts in rows.items():
+            print(f"{title}: " + "  ".join(f"{key}: {n}" for key, n in sorted(counts.items())))
+        for name, count in self.mistakes.items():
+            print(f"files that tell apart {name}: {count}")
