@@ -355,7 +355,7 @@ fn run_adder(nums: &[u32], lits: &mut [u32], ends: &mut [u32])
         constant: number(nums, 1),
         given,
     };
-    if !log_adder::heights_fit(counts, p.width, p.constant) {
+    if 12 < log_adder::greatest_height(counts, p.width, p.constant) {
         show(b"tall\n");
         return;
     }
@@ -379,7 +379,7 @@ fn run_eq_adder(nums: &[u32], lits: &mut [u32], ends: &mut [u32])
     let mut counts = [0u32; 32];
     let cols = gather(nums, 4, &mut counts);
     let g = EqInput { width, x, y, vars };
-    if !log_adder2::eq_heights_fit(counts, width, x, y) {
+    if 12 < log_adder2::eq_greatest_height(counts, width, x, y) {
         show(b"tall\n");
         return;
     }

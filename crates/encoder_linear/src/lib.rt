@@ -14,7 +14,7 @@ use encoder_env::EncoderEnv;
 use encoder_env::well_formed;
 use log_linear::RuleCounts;
 use log_sum::encode_linear_log;
-use log_sum::linear_fits;
+use log_sum::linear_height;
 
 // Whether no setting lacks its coefficient, and there are at most six terms.
 fn terms_paired(terms: &[i32]) -> bool
@@ -116,7 +116,7 @@ fn constant_fits(k: i32) -> bool
 }
 
 // The checks of a sum, but for heights and space.
-fn argument_status(
+pub fn argument_status(
     env: EncoderEnv,
     lits: usize,
     ends: usize,
@@ -166,7 +166,7 @@ fn linear_status(
         return status;
     }
     let encodings = env.encodings;
-    if !linear_fits(encodings, op, constant, terms) {
+    if 12 < linear_height(encodings, op, constant, terms) {
         return 13;
     }
     0

@@ -14,7 +14,7 @@ use encoder_env::EncoderEnv;
 use encoder_env::well_formed;
 use log_linear::RuleCounts;
 use log_product::encode_mul_log;
-use log_product::mul_fits;
+use log_product::mul_height;
 
 // The checks of a product, but for space.
 fn mul_status(env: EncoderEnv, lits: usize, ends: usize, x: u32, y: u32, m: u32) -> u32
@@ -33,7 +33,7 @@ fn mul_status(env: EncoderEnv, lits: usize, ends: usize, x: u32, y: u32, m: u32)
         return 8;
     }
     let encodings = env.encodings;
-    if !mul_fits(encodings, x, y, m) {
+    if 12 < mul_height(encodings, x, y, m) {
         return 13;
     }
     0

@@ -67,7 +67,7 @@ module _ (cols : List (List Lit)) (counts : List ℕ) (given : List Lit) (g widt
           lits-long = p ∙ go .lits-long;
           ends-long = q ∙ go .ends-long;
           fits = (λ j. tall-from counts (sym n j) (i + 1) (k / 2) (sym size j))
-              ∙ sym (fits-step counts (width - i) i k (s .carry .count) (omega arith) high) ∙ go .fits;
+              ∙ fits-step counts (width - i) i k (s .carry .count) (omega arith) (go .fits);
           same = go .same
               ∙ ap (then (after d e (s .used)) (state-bits s)) (adder-step cols counts (width - i) i k (range-lits (s .carry)) (drop i gs) (s .vars) (omega arith))
               ∙ add-column-then t (omega arith) (drop i gs) (given-result given g long i (s .vars + carry-count (column-at i k) s)) (given-vars given g long i (s .vars + carry-count (column-at i k) s)) (λ next x. adder (input-columns (width - i - 1) (i + 1) cols counts (k / 2)) next (tail (drop i gs)) x)

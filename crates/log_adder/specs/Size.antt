@@ -1,8 +1,8 @@
 -- The columns that an adder reaches, and the size of its clauses, from numbers of literals and constants alone.
-use Prim.Native.Nat.{_%_, _*_, _+_, _-_, _/_, suc, zero, ℕ}
+use Prim.Native.Nat.{_%_, _*_, _+_, _-_, _/_, max, suc, zero, ℕ}
 use lib.Dec.{eqb, leb, ltb}
 use lib.ListN.{getD, length}
-use mathlib.Core.Bool.{Bool, _||_, cond, false}
+use mathlib.Core.Bool.{Bool, cond}
 use mathlib.Core.List.{List, [], _∷_, map}
 use mathlib.Core.Option.{Option, none, some}
 use Rattle.mixed.specs.Tally.{Shape, tally}
@@ -31,10 +31,14 @@ pub record Reached : Type 0 where
 abbrev pub height : Reached → ℕ
 height r = r .own + r .carry
 
+-- the greatest height of a column reached, 0 where none is
+abbrev pub greatest-height : List Reached → ℕ
+greatest-height [] = 0
+greatest-height (r ∷ rs) = max (height r) (greatest-height rs)
+
 -- document 01's refusal 13: a column above 12
 abbrev pub too-tall : List Reached → Bool
-too-tall [] = false
-too-tall (r ∷ rs) = ltb 12 (height r) || too-tall rs
+too-tall rs = ltb 12 (greatest-height rs)
 
 -- one variable for each literal of a new carry
 abbrev pub carry-vars : List Reached → ℕ

@@ -1,14 +1,14 @@
 // Columns and the adder of Ne, Ge and products, after `log_encoding_adder` of log.rs. A call that is lent no entries only counts.
 ghost use mathlib.Core.Path.{_≡_};
 ghost use mathlib.Core.List.{[], _∷_, _++_, map};
-ghost use Prim.Native.Nat.{_+_, _-_, _*_, _^_, _≤_, _<_};
+ghost use Prim.Native.Nat.{max, _+_, _-_, _*_, _^_, _≤_, _<_};
 ghost use lib.ListN.{length, take};
-ghost use mathlib.Core.Bool.{false, not};
+ghost use mathlib.Core.Bool.{false};
 ghost use Rattle.clause_set.specs.Stores.{add-clauses, after, stores};
 ghost use Rattle.mixed.specs.Infos.{AllSmall};
 ghost use Rattle.log_adder.specs.AdderState.{AdderAdded, AdderCounted, AdderFits, ColumnAdded, ColumnReady, ColumnsAdded, CountsLow, Extended, InBounds, result-count, result-lit};
 ghost use Rattle.log_adder.specs.ColumnInfo.{ColumnSized, column-clauses, column-infos, lit-info, range-info};
-ghost use Rattle.log_adder.specs.Size.{input-shapes, reached, too-tall};
+ghost use Rattle.log_adder.specs.Size.{greatest-height, input-shapes, reached, too-tall};
 use clause_set::Counts;
 use mixed::LinearInfo;
 use sat::Lit;
@@ -209,24 +209,30 @@ fn add_column(lits: &mut [u32], ends: &mut [u32], c: ColumnInput, s: AdderState)
     }
 }
 
-// Whether no column that the adder reaches has more than 12 literals.
-pub fn heights_fit(counts: [u32; 32], width: usize, constant: u32) -> bool
+// The greater of two heights.
+pub fn higher(a: u32, b: u32) -> u32
+    ensures { λ r. ⌜ r ≡ max a b ⌝ }
+{
+    if a < b { b } else { a }
+}
+
+// The greatest height of a column that the adder reaches; past the columns given, none is higher than the last.
+pub fn greatest_height(counts: [u32; 32], width: usize, constant: u32) -> u32
     requires { ⌜ (width ≤ 32) × CountsLow counts ⌝ }
-    ensures { λ r. ⌜ r ≡ not (too-tall (reached (input-shapes width 0 counts constant) 0)) ⌝ }
+    ensures { λ r. ⌜ r ≡ greatest-height (reached (input-shapes width 0 counts constant) 0) ⌝ }
 {
     let mut bits = constant;
     let mut carry: u32 = 0;
+    let mut most: u32 = 0;
     let mut i: usize = 0;
     while i < width {
         let height = counts[i] + carry;
-        if 12 < height {
-            return false;
-        }
+        most = higher(most, height);
         carry = (bits % 2 + height) / 2;
         bits = bits / 2;
         i += 1;
     }
-    true
+    most
 }
 
 // The columns, one after the other.

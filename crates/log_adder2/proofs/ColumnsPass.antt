@@ -105,7 +105,7 @@ module _ (cols : List (List Lit)) (counts : List ℕ) where
             lits-long = lo ∙ m .lits-long;
             ends-long = en ∙ m .ends-long;
             fits = (λ k. tall-from counts (sym next k) (i + 1) (r .x) (r .y) (r .carry .count))
-                ∙ sym (fits-step counts (suc (last - i)) i (s .x) (s .y) (s .carry .count) (omega arith) hi od) ∙ m .fits;
+                ∙ fits-step counts (suc (last - i)) i (s .x) (s .y) (s .carry .count) (omega arith) od (m .fits);
             live = sym (ap (λ (x : Carries). is-dead (x .last)) wk) ∙ m .live;
             same = m .same ∙ ap (λ (x : Clauses). add-clauses 0 x (after d e (s .used))) t ∙ add-append 0 cs (coming r (i + 1)) (after d e (s .used)) ∙ ap (add-clauses 0 (coming r (i + 1))) (sym (w .stores));
           }

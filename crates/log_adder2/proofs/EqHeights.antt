@@ -1,15 +1,15 @@
 -- The heights of the columns that the adder of Eq reaches, as the code comes by them: a column, a dead end, the end.
-use Prim.Native.Nat.{_%_, _+_, _-_, _/_, _<_, _≤_, suc, zero, ℕ}
-use borrow.Author.Tests.{le-leb, le-ltb, lt-leb, lt-ltb}
+use Prim.Native.Nat.{_%_, _+_, _-_, _/_, _<_, _≤_, max, suc, zero, ℕ}
+use borrow.Author.Tests.{le-leb, le-ltb, lt-leb, ltb-false}
 use lib.ListN.{drop, getD, length, take}
 use lib.Seq.{drop-cons}
-use mathlib.Core.Bool.{Bool, cond, false, not, true}
+use mathlib.Core.Bool.{Bool, cond, false}
 use mathlib.Core.List.{List, [], _∷_}
 use mathlib.Core.Path.{_∙_, _≡_, ap, refl, sym}
 use native.Mathlib.Nat.{not-suc-le-zero, sub-zero}
 use native.Mathlib.Numerals.{add-one, sub-one}
 use native.Mathlib.Omega.{arith}
-use Rattle.log_adder.specs.Size.{Reached, eq-column-reached, eq-reached, has-carry, too-tall}
+use Rattle.log_adder.specs.Size.{Reached, eq-column-reached, eq-reached, greatest-height, has-carry, too-tall}
 use Rattle.log_adder.proofs.Heights.{reached-fits}
 
 module _ (counts : List ℕ) where
@@ -29,7 +29,11 @@ module _ (counts : List ℕ) where
   pub counts-from-take : (w : ℕ) → w ≤ length counts → take w counts ≡ counts-from w 0
   counts-from-take w h = counts-from-drop w 0 (omega arith)
 
-  -- one of w columns from the i-th on, with a carry of c literals and x and y, is reached and above 12
+  -- the greatest height of w columns from the i-th on that are reached, with a carry of c literals and x and y
+  abbrev greatest-from : ℕ → ℕ → ℕ → ℕ → ℕ → ℕ
+  greatest-from w i x y c = greatest-height (eq-reached (counts-from w i) x y c)
+
+  -- one of these columns is above 12
   abbrev pub tall-from : ℕ → ℕ → ℕ → ℕ → ℕ → Bool
   tall-from w i x y c = too-tall (eq-reached (counts-from w i) x y c)
 
@@ -40,73 +44,66 @@ module _ (counts : List ℕ) where
       let n : width ≡ suc (width - 1) = omega arith in
       sym (ap (λ (hs : List ℕ). too-tall (eq-reached hs x y 0)) (counts-from-take width h ∙ ap (λ (w : ℕ). counts-from w 0) n)) ∙ f
 
+  greatest-step : (w i x y c : ℕ) → 0 < w → (x + y) % 2 ≤ getD counts i 0 + c
+      → greatest-from w i x y c
+      ≡ max (getD counts i 0 + c) (greatest-from (w - 1) (i + 1) ((x + 1) / 2) (y / 2) ((getD counts i 0 + c - (x + y) % 2) / 2))
+  greatest-step zero i x y c z k = absurd (not-suc-le-zero z)
+  greatest-step (suc zero) i x y c z k = refl
+  greatest-step (suc (suc w)) i x y c z k = rw (le-leb ((x + y) % 2) (getD counts i 0 + c) k, sub-one (suc (suc w)))
+
+  greatest-dead : (w i x y c : ℕ) → 0 < w → getD counts i 0 + c < (x + y) % 2 → greatest-from w i x y c ≡ getD counts i 0 + c
+  greatest-dead zero i x y c z k = absurd (not-suc-le-zero z)
+  greatest-dead (suc zero) i x y c z k = omega arith
+  greatest-dead (suc (suc w)) i x y c z k = rw (lt-leb ((x + y) % 2) (getD counts i 0 + c) k) (omega arith)
+
+  greatest-end : (w i x y c : ℕ) → w ≤ 0 → greatest-from w i x y c ≡ 0
+  greatest-end zero i x y c h = refl
+  greatest-end (suc w) i x y c h = absurd (not-suc-le-zero h)
+
   pub column-fits : (w i x y c : ℕ) → 0 < w → tall-from w i x y c ≡ false → getD counts i 0 + c ≤ 12
   column-fits zero i x y c z h = absurd (not-suc-le-zero z)
-  column-fits (suc zero) i x y c z h = reached-fits record { own = getD counts i 0; carry = c; constant = (x + y) % 2; next = 0 } [] h
+  column-fits (suc zero) i x y c z h = reached-fits record { own = getD counts i 0; carry = c; constant = (x + y) % 2; next = 0 } [] h .0
   column-fits (suc (suc w)) i x y c z h =
       let r : Reached = eq-column-reached (getD counts i 0) c x y in
-      reached-fits r (cond (has-carry r) (eq-reached (counts-from (suc w) (i + 1)) ((x + 1) / 2) (y / 2) (r .next)) []) h
+      reached-fits r (cond (has-carry r) (eq-reached (counts-from (suc w) (i + 1)) ((x + 1) / 2) (y / 2) (r .next)) []) h .0
 
-  pub fits-step : (w i x y c : ℕ) → 0 < w → getD counts i 0 + c ≤ 12 → (x + y) % 2 ≤ getD counts i 0 + c
-      → tall-from w i x y c ≡ tall-from (w - 1) (i + 1) ((x + 1) / 2) (y / 2) ((getD counts i 0 + c - (x + y) % 2) / 2)
-  fits-step zero i x y c z h k = absurd (not-suc-le-zero z)
-  fits-step (suc zero) i x y c z h k = rw (le-ltb 12 (getD counts i 0 + c) h)
-  fits-step (suc (suc w)) i x y c z h k =
-      rw (le-ltb 12 (getD counts i 0 + c) h, le-leb ((x + y) % 2) (getD counts i 0 + c) k, sub-one (suc (suc w)))
-
-  pub fits-dead : (w i x y c : ℕ) → getD counts i 0 + c ≤ 12 → getD counts i 0 + c < (x + y) % 2 → tall-from w i x y c ≡ false
-  fits-dead zero i x y c h k = refl
-  fits-dead (suc zero) i x y c h k = rw (le-ltb 12 (getD counts i 0 + c) h)
-  fits-dead (suc (suc w)) i x y c h k = rw (le-ltb 12 (getD counts i 0 + c) h, lt-leb ((x + y) % 2) (getD counts i 0 + c) k)
-
-  pub tall-here : (w i x y c : ℕ) → 0 < w → 12 < getD counts i 0 + c → tall-from w i x y c ≡ true
-  tall-here zero i x y c z h = absurd (not-suc-le-zero z)
-  tall-here (suc zero) i x y c z h = rw (lt-ltb 12 (getD counts i 0 + c) h)
-  tall-here (suc (suc w)) i x y c z h = rw (lt-ltb 12 (getD counts i 0 + c) h)
-
-  pub fits-end : (w i x y c : ℕ) → w ≤ 0 → tall-from w i x y c ≡ false
-  fits-end zero i x y c h = refl
-  fits-end (suc w) i x y c h = absurd (not-suc-le-zero h)
+  pub fits-step : (w i x y c : ℕ) → 0 < w → (x + y) % 2 ≤ getD counts i 0 + c → tall-from w i x y c ≡ false
+      → tall-from (w - 1) (i + 1) ((x + 1) / 2) (y / 2) ((getD counts i 0 + c - (x + y) % 2) / 2) ≡ false
+  fits-step w i x y c z k h =
+      let rest : ℕ = greatest-from (w - 1) (i + 1) ((x + 1) / 2) (y / 2) ((getD counts i 0 + c - (x + y) % 2) / 2) in
+      le-ltb 12 rest (omega (arith, greatest-step w i x y c z k, ltb-false 12 (greatest-from w i x y c) h))
 
   module _ (width x₀ y₀ : ℕ) where
-    -- before column i, with the carry into it and what is left of x and y: the columns left decide
-    pub record HeightsLeft (x y c i : ℕ) : Type 0 where
+    -- before column i, with the carry into it, what is left of x and y and the greatest height so far: the columns left may be higher
+    pub record HeightsLeft (x y c most i : ℕ) : Type 0 where
       pub within : i ≤ width
-      pub few : c ≤ 6
+      pub few : c < 2147483648
       pub x-low : x < 2147483648
       pub y-low : y < 2147483648
-      pub same : too-tall (eq-reached (take width counts) x₀ y₀ 0) ≡ tall-from (width - i) i x y c
+      pub same : greatest-height (eq-reached (take width counts) x₀ y₀ 0) ≡ max most (greatest-from (width - i) i x y c)
 
-    pub heights-start : width ≤ length counts → x₀ < 2147483648 → y₀ < 2147483648 → HeightsLeft x₀ y₀ 0 0
+    pub heights-start : width ≤ length counts → x₀ < 2147483648 → y₀ < 2147483648 → HeightsLeft x₀ y₀ 0 0 0
     heights-start h p q =
-        record {
-          within = omega arith;
-          few = omega arith;
-          x-low = p;
-          y-low = q;
-          same = rw (sub-zero width) (ap (λ (hs : List ℕ). too-tall (eq-reached hs x₀ y₀ 0)) (counts-from-take width h));
-        }
+        let all = ap (λ (hs : List ℕ). greatest-height (eq-reached hs x₀ y₀ 0)) (counts-from-take width h) in
+        record { within = omega arith; few = omega arith; x-low = p; y-low = q; same = rw (sub-zero width) (omega (arith, all)) }
 
-    module _ {x y c i : ℕ} (left : HeightsLeft x y c i) where
-      pub heights-turn : i < width → getD counts i 0 + c ≤ 12 → (x + y) % 2 ≤ getD counts i 0 + c
-          → HeightsLeft ((x + 1) / 2) (y / 2) ((getD counts i 0 + c - (x + y) % 2) / 2) (i + 1)
-      heights-turn h high k =
-          let n : width - i - 1 ≡ width - (i + 1) = omega arith in
+    module _ {x y c most i : ℕ} (left : HeightsLeft x y c most i) (n : ℕ) (e : n ≡ max most (getD counts i 0 + c)) (h : i < width) where
+      pub heights-turn : getD counts i 0 < 2147483648 → (x + y) % 2 ≤ getD counts i 0 + c
+          → HeightsLeft ((x + 1) / 2) (y / 2) ((getD counts i 0 + c - (x + y) % 2) / 2) n (i + 1)
+      heights-turn low k =
+          let u : width - i - 1 ≡ width - (i + 1) = omega arith in
+          let step = greatest-step (width - i) i x y c (omega arith) k
+          ∙ (λ j. max (getD counts i 0 + c) (greatest-from (u j) (i + 1) ((x + 1) / 2) (y / 2) ((getD counts i 0 + c - (x + y) % 2) / 2))) in
           record {
             within = omega arith;
-            few = omega arith;
+            few = omega (arith, left .few);
             x-low = omega (arith, left .x-low);
             y-low = omega (arith, left .y-low);
-            same = left .same ∙ fits-step (width - i) i x y c (omega arith) high k
-                ∙ (λ j. tall-from (n j) (i + 1) ((x + 1) / 2) (y / 2) ((getD counts i 0 + c - (x + y) % 2) / 2));
+            same = omega (arith, left .same, step);
           }
 
-      pub heights-tall : i < width → 12 < getD counts i 0 + c → false ≡ not (too-tall (eq-reached (take width counts) x₀ y₀ 0))
-      heights-tall h high = rw (left .same, tall-here (width - i) i x y c (omega arith) high)
+      pub heights-dead : getD counts i 0 + c < (x + y) % 2 → n ≡ greatest-height (eq-reached (take width counts) x₀ y₀ 0)
+      heights-dead k = omega (arith, left .same, greatest-dead (width - i) i x y c (omega arith) k)
 
-      pub heights-dead : getD counts i 0 + c ≤ 12 → getD counts i 0 + c < (x + y) % 2
-          → true ≡ not (too-tall (eq-reached (take width counts) x₀ y₀ 0))
-      heights-dead high k = rw (left .same, fits-dead (width - i) i x y c high k)
-
-      pub heights-end : width ≤ i → true ≡ not (too-tall (eq-reached (take width counts) x₀ y₀ 0))
-      heights-end h = rw (left .same, fits-end (width - i) i x y c (omega arith))
+    pub heights-end : {x y c most i : ℕ} → HeightsLeft x y c most i → width ≤ i → most ≡ greatest-height (eq-reached (take width counts) x₀ y₀ 0)
+    heights-end {x} {y} {c} {most} {i} left h = omega (arith, left .same, greatest-end (width - i) i x y c (omega arith))

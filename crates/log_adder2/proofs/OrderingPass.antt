@@ -131,7 +131,7 @@ module _ (counts : List ℕ) (last : ℕ) where
           lits-long = lo ∙ m .lits-long;
           ends-long = en ∙ m .ends-long;
           fits = (λ r. tall-from counts (sym next r) (i + 1) ((s .x + 1) / 2) (s .y / 2) (q r))
-              ∙ sym (fits-step counts (suc (last - i)) i (s .x) (s .y) (s .carry .count) (omega arith) k o) ∙ m .fits;
+              ∙ fits-step counts (suc (last - i)) i (s .x) (s .y) (s .carry .count) (omega arith) o (m .fits);
           same = m .same ∙ ap (λ (x : Carries). add-clauses 0 (x .sent) (after d e (s .used))) t
               ∙ add-append 0 cs (coming (next· u (record { 0 = s .vars }) n) (i + 1) .sent) (after d e (s .used))
               ∙ ap (add-clauses 0 (coming (next· u (record { 0 = s .vars }) n) (i + 1) .sent)) (sym w);

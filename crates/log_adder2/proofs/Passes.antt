@@ -1,5 +1,5 @@
 -- The carries column by column; and the two passes together are the definition.
-use mathlib.Core.Path.{_≡_, refl, sym, _∙_}
+use mathlib.Core.Path.{_≡_, refl}
 use mathlib.Core.Bool.{Bool, true, false, cond}
 use mathlib.Core.List.{List, [], _++_}
 use mathlib.Core.Option.{none, some}
@@ -81,7 +81,7 @@ module _ (cols : List (List Lit)) (counts : List ℕ) (wide : Wide cols) where
       go true e more =
           let n : ℕ = (getD counts i 0 + p .count - (x + y) % 2) / 2 in
           let sh : tall-from counts (suc w) (i + 1) ((x + 1) / 2) (y / 2) n ≡ false =
-          rw (sub-one (suc (suc w))) at (sym (fits-step counts (suc (suc w)) i x y (p .count) (omega arith) hi (leb-true ((x + y) % 2) (getD counts i 0 + p .count) e)) ∙ k) in
+          rw (sub-one (suc (suc w))) at (fits-step counts (suc (suc w)) i x y (p .count) (omega arith) (leb-true ((x + y) % 2) (getD counts i 0 + p .count) e) k) in
           rw (own, carry, e, more sh, prepend-cond)
       go false e more = rw (own, carry, e)
 

@@ -10,13 +10,14 @@ ghost use Rattle.clause_set.specs.Stores.{add-clauses, after, stores};
 ghost use Rattle.log_adder.specs.AdderState.{CountsLow};
 ghost use Rattle.log_adder.specs.Adder2.{column-answer, eq-column, ordering, returned-set};
 ghost use Rattle.log_adder.specs.ColumnInfo.{ColumnSized, range-lits};
-ghost use Rattle.log_adder.specs.Size.{eq-reached, too-tall};
+ghost use Rattle.log_adder.specs.Size.{eq-reached, greatest-height, too-tall};
 ghost use Rattle.log_adder2.specs.EqState.{CarriesOrdered, EqAdded, EqColumnReady, EqCounted, EqFits, Wrote, carries, carry-of, columns-clauses, eq-carry-count, eq-column-clauses, eq-output, is-dead, next-state, no-vars, target-bit};
 ghost use Rattle.log_adder2.specs.declared.Column.the-variants.{Carry};
 use clause_set::Clause;
 use clause_set::Counts;
 use log_adder::ColumnInfo;
 use log_adder::VarRange;
+use log_adder::higher;
 use sat::Lit;
 use sat::Var;
 
@@ -148,30 +149,29 @@ fn order_next(lits: &mut [u32], ends: &mut [u32], s: EqState, first: Var, n: u32
     }
 }
 
-// Whether no column that the adder reaches has more than 12 literals; a dead end is the last that is reached.
-pub fn eq_heights_fit(counts: [u32; 32], width: usize, x: u32, y: u32) -> bool
+// The greatest height of a column that the adder reaches; a dead end is the last that is reached.
+pub fn eq_greatest_height(counts: [u32; 32], width: usize, x: u32, y: u32) -> u32
     requires { ⌜ (width ≤ 32) × (x < 2 ^ 31) × (y < 2 ^ 31) × CountsLow counts ⌝ }
-    ensures { λ r. ⌜ r ≡ not (too-tall (eq-reached (take width counts) x y 0)) ⌝ }
+    ensures { λ r. ⌜ r ≡ greatest-height (eq-reached (take width counts) x y 0) ⌝ }
 {
     let mut a = x;
     let mut b = y;
     let mut carry: u32 = 0;
+    let mut most: u32 = 0;
     let mut i: usize = 0;
     while i < width {
         let height = counts[i] + carry;
-        if 12 < height {
-            return false;
-        }
+        most = higher(most, height);
         let odd = (a + b) % 2;
         if height < odd {
-            return true;
+            return most;
         }
         carry = (height - odd) / 2;
         a = (a + 1) / 2;
         b = b / 2;
         i += 1;
     }
-    true
+    most
 }
 
 // What the first pass answers where no column was a dead end.

@@ -77,6 +77,6 @@ output-grid cols counts g h (suc w) i x y p v l k =
     go true e more =
         let n : ℕ = (getD counts i 0 + p .count - (x + y) % 2) / 2 in
         let sh : tall-from counts (suc w) (i + 1) ((x + 1) / 2) (y / 2) n ≡ false =
-        rw (sub-one (suc (suc w))) at (sym (fits-step counts (suc (suc w)) i x y (p .count) (omega arith) hi (leb-true ((x + y) % 2) (getD counts i 0 + p .count) e)) ∙ k) in
+        rw (sub-one (suc (suc w))) at (fits-step counts (suc (suc w)) i x y (p .count) (omega arith) (leb-true ((x + y) % 2) (getD counts i 0 + p .count) e) k) in
         rw (same, size, carry, e, more (record { first = record { 0 = v }; count = n }) sh)
     go false e more = rw (same, size, carry, e)

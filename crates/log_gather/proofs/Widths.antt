@@ -1,5 +1,5 @@
 -- How many columns there are; and the arrays' columns are the grid's.
-use mathlib.Core.Path.{_≡_, refl, ap, sym, _∙_}
+use mathlib.Core.Path.{_≡_, refl, ap, _∙_}
 use mathlib.Core.Bool.{Bool, true, false, cond}
 use mathlib.Core.List.{List, [], _∷_, map}
 use Prim.Native.Nat.{ℕ, zero, suc, max, _+_, _-_, _/_, _%_, _≤_, _<_}
@@ -53,6 +53,6 @@ columns-grid cols counts g h (suc w) i k c l s =
     let n = h .count i (omega arith) in
     let e : map num (take (getD counts i 0) (getD cols i [])) ≡ getD g i [] = h .own i (omega arith) (omega arith) in
     let left : too-tall (reached (input-shapes w (i + 1) counts (k / 2)) ((k % 2 + getD counts i 0 + c) / 2)) ≡ false =
-    rw (sub-one (suc w)) at (sym (fits-step counts (suc w) i k c (omega arith) t) ∙ s) in
+    rw (sub-one (suc w)) at (fits-step counts (suc w) i k c (omega arith) s) in
     let r = columns-grid cols counts g h w (i + 1) (k / 2) ((k % 2 + getD counts i 0 + c) / 2) (omega arith) left in
     λ j. record { own = e j; constant = k % 2 } ∷ r j

@@ -13,22 +13,6 @@ ghost use Rattle.log_gather.specs.Arrays.{AllSmall, Arrays, Few, Holds, 
 ghost use Rattle.sat.specs.LitArray.{first-lits};
 use sat::Lit;
 
-// Literal l at the end of column w.
-fn push_lit(cols: [[Lit; 12]; 32], counts: &mut [u32; 32], w: usize, l: Lit) -> [[Lit; 12]; 32]
-    requires { ⌜ (w < 32) × (l .0 < 2 ^ 31) × Arrays cols (now counts) × Few 2147483000 (now counts) ⌝ }
-    ensures { λ r. ⌜ Pushed 1 cols (now (counts .entry)) (push-value w (l .0 ∷ [])) r (now (counts .exit)) ⌝ }
-{
-    let n = counts[w];
-    counts[w] = n + 1;
-    if 12 <= n {
-        return cols;
-    }
-    let at = n as usize;
-    let mut out = cols;
-    out[w][at] = l;
-    out
-}
-
 // Literal j of the first n at the end of column o + j.
 pub fn push_value(
     cols: [[Lit; 12]; 32],
@@ -45,30 +29,15 @@ pub fn push_value(
     let mut j: usize = 0;
     while j < n {
         let l = lits[j];
-        let next = push_lit(out, counts, o + j, l);
-        out = next;
+        let w = o + j;
+        let at = counts[w];
+        counts[w] = at + 1;
+        if at < 12 {
+            out[w][at as usize] = l;
+        }
         j += 1;
     }
     out
-}
-
-// The same where the lowest bit of k is 1.
-fn push_bit(
-    cols: [[Lit; 12]; 32],
-    counts: &mut [u32; 32],
-    lits: [Lit; 32],
-    n: usize,
-    o: usize,
-    k: u32,
-) -> [[Lit; 12]; 32]
-    requires { ⌜ (shl (o + n) k < 2 ^ 32) × AllLow lits ⌝ }
-    requires { ⌜ Arrays cols (now counts) × Few 2147482000 (now counts) ⌝ }
-    ensures { λ r. ⌜ Pushed 32 cols (now (counts .entry)) (λ g. cond (eqb (k % 2) 1) (push-value o (first-lits lits n) g) g) r (now (counts .exit)) ⌝ }
-{
-    if k % 2 == 1 {
-        return push_value(cols, counts, lits, n, o);
-    }
-    cols
 }
 
 // The first n literals by weight, once for each of the coefficient's bits: eight in a sum, twelve in a product with offsets. What they
@@ -89,8 +58,10 @@ pub fn push_scaled(
     let mut k = coef;
     let mut o: usize = 0;
     while o < steps {
-        let next = push_bit(out, counts, lits, n, o, k);
-        out = next;
+        if k % 2 == 1 {
+            let next = push_value(out, counts, lits, n, o);
+            out = next;
+        }
         k = k / 2;
         o += 1;
     }

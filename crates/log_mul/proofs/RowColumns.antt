@@ -188,11 +188,8 @@ module _ {x y v : ℕ} {cols : List (List Lit)} {counts : List ℕ} (g : RowsGat
   pub multiplier-reaches : reached (input-shapes w 0 counts 0) 0 ≡ multiplier-reached x y given
   multiplier-reaches = ap (λ (cs : List ColumnShape). reached cs 0) (shapes-from w 0 (omega arith) ∙ ap (map column-shape) as-wide ∙ padded)
 
-  pub multiplier-tall : too-tall (reached (input-shapes w 0 counts 0) 0) ≡ too-tall (multiplier-reached x y given)
-  multiplier-tall = ap too-tall multiplier-reaches
-
   pub multiplier-columns : too-tall (multiplier-reached x y given) ≡ false → input-columns w 0 cols counts 0 ≡ pad-columns given grid
-  multiplier-columns t = columns-grid cols counts grid (g .holds) w 0 0 0 (omega arith) (multiplier-tall ∙ t) ∙ as-wide
+  multiplier-columns t = columns-grid cols counts grid (g .holds) w 0 0 0 (omega arith) (ap too-tall multiplier-reaches ∙ t) ∙ as-wide
 
 -- The multiplier ------------------------------------------------------------------------------------------------------
 

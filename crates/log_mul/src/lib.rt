@@ -1,7 +1,6 @@
 // The multiplier, after `log_encoding_multiplier` of log.rs, and the product of numbers without offsets. A call that is lent no entries
 // only counts.
 ghost use mathlib.Core.Path.{_≡_};
-ghost use mathlib.Core.Bool.{false, not};
 ghost use mathlib.Core.List.{[]};
 ghost use Prim.Native.Nat.{_+_, _*_, _^_, _≤_, _<_};
 ghost use lib.ListN.{length, replicate};
@@ -9,7 +8,7 @@ ghost use Rattle.sat.specs.LitArray.{first-lits};
 ghost use Rattle.sat.specs.Fresh.{fresh};
 ghost use Rattle.clause_set.specs.Stores.{after};
 ghost use Rattle.log_adder.specs.ColumnInfo.{AllLow};
-ghost use Rattle.log_adder.specs.Size.{input-shapes, pad-shapes, reached, too-tall};
+ghost use Rattle.log_adder.specs.Size.{greatest-height, input-shapes, pad-shapes, reached};
 ghost use Rattle.log_gather.specs.Arrays.{Few};
 ghost use Rattle.log_linear.specs.Added.{Added, add-rule, bits-of, rule-outcome};
 ghost use Rattle.log_mul.specs.Bits.{BitAdded, BitsLeft, ProductNumbered};
@@ -18,7 +17,7 @@ ghost use Rattle.log_mul.specs.Multiply.{and-gate, multiplier, product, 
 ghost use Rattle.log_mul.specs.Size.{multiplier-reached, rows-counts};
 use clause_set::Counts;
 use log_adder::AdderInput;
-use log_adder::heights_fit;
+use log_adder::greatest_height;
 use log_adder::log_encoding_adder;
 use log_gather::larger;
 use log_gather::no_columns;
@@ -156,15 +155,15 @@ fn multiplier_width(x: usize, y: usize, given: usize) -> usize
     larger(x - 1 + y, given)
 }
 
-// Whether no column that the multiplier of x by y bits reaches has more than 12 literals.
-pub fn multiplier_fits(x: usize, y: usize, given: usize) -> bool
+// The greatest height of a column that the multiplier of x by y bits reaches.
+pub fn multiplier_height(x: usize, y: usize, given: usize) -> u32
     requires { ⌜ (x ≤ 12) × (y ≤ 12) × (given ≤ 12) ⌝ }
-    ensures { λ r. ⌜ r ≡ not (too-tall (multiplier-reached x y given)) ⌝ }
+    ensures { λ r. ⌜ r ≡ greatest-height (multiplier-reached x y given) ⌝ }
 {
     let mut counts = [0u32; 32];
     gather_rows(x, y, 0, &mut counts);
     let width = multiplier_width(x, y, given);
-    heights_fit(counts, width, 0)
+    greatest_height(counts, width, 0)
 }
 
 // The next bit of a sum, of a column with so many own literals: its carry's variables come first.

@@ -1,6 +1,6 @@
 -- A product with offsets: Eq's ordering clauses, the multiplier's clauses and Eq's returned set are the definition's.
 use mathlib.Core.Path.{_≡_, refl, ap, sym, _∙_}
-use mathlib.Core.Bool.{Bool, _||_, false, not, true}
+use mathlib.Core.Bool.{Bool, false, true}
 use mathlib.Core.List.{List, [], _∷_, _++_, map}
 use Prim.Native.Nat.{ℕ, _+_, _-_, _≤_}
 use native.Mathlib.Omega.{arith}
@@ -18,7 +18,7 @@ use Rattle.log_var.specs.LogEncoding.{LogEncoding}
 use Rattle.log_var.specs.Size.{setting-shape}
 use Rattle.log_adder.specs.Adder2.{Adder2Output, EncodedEq, adder2, eq-adder, eq-columns, last-column, returned-set}
 use Rattle.log_adder.specs.Gather.{Grid}
-use Rattle.log_adder.specs.Size.{Reached, eq-reached, own-counts, too-tall}
+use Rattle.log_adder.specs.Size.{eq-reached, own-counts, too-tall}
 use Rattle.log_adder2.specs.EqState.{CarriesOrdered, EqFits, eq-output}
 use Rattle.log_adder2.specs.declared.EqCarries.{EqCarries}
 use Rattle.log_adder2.specs.declared.EqInput.{EqInput}
@@ -30,7 +30,7 @@ use Rattle.log_linear.specs.declared.RuleCounts.{RuleCounts}
 use Rattle.log_linear.proofs.Size.{gather-counts-are, negated-bits-are}
 use Rattle.log_terms.specs.Gathered.{Gathered}
 use Rattle.log_sum.proofs.Columns.{counts-are, eq-output-is}
-use Rattle.log_sum.proofs.Compared.{both-fit, tall-append}
+use Rattle.log_sum.proofs.Compared.{both-fit}
 use Rattle.log_mul.specs.Added.{MultiplierAdded}
 use Rattle.log_mul.specs.EncodeMulLog.{encode-mul, mul-constant, offset-terms, product-with-offsets}
 use Rattle.log_mul.specs.Multiply.{multiplier, product}
@@ -141,21 +141,6 @@ offsets-multiplier x y m t =
     (linear-reached eq (offset-shapes (setting-shape x) (setting-shape y) (setting-shape m)) (up (mul-constant x y m)) (down (mul-constant x y m))) t .0
 
 -- Heights ---------------------------------------------------------------------------------------------------------------
-
--- the test of the first columns, then that of the others
-pub first-tall : (xs ys : List Reached) (r : Bool) → r ≡ not (too-tall xs) → r ≡ false → false ≡ not (too-tall (xs ++ ys))
-first-tall xs ys r e f = rw (tall-append xs ys) (go (too-tall xs) (sym f ∙ e))
-  where
-    go : (t : Bool) → false ≡ not t → false ≡ not (t || too-tall ys)
-    go true h = refl
-    go false h = let z : _≡_ {A = ℕ} 0 1 = cc in absurd (omega arith)
-
-pub second-decides : (xs ys : List Reached) (r : Bool) → r ≡ not (too-tall xs) → r ≡ true → not (too-tall ys) ≡ not (too-tall (xs ++ ys))
-second-decides xs ys r e f = rw (tall-append xs ys) (go (too-tall xs) (sym f ∙ e))
-  where
-    go : (t : Bool) → true ≡ not t → not (too-tall ys) ≡ not (t || too-tall ys)
-    go true h = let z : _≡_ {A = ℕ} 0 1 = cc in absurd (omega arith)
-    go false h = refl
 
 -- Eq's columns, as the terms' shapes
 pub shapes-reached : (x y m : LogEncoding) (ws : List Weighted) (bits : List ℕ) (z : ℤ) → ws ≡ offset-terms x y m bits

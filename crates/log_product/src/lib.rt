@@ -1,7 +1,7 @@
 // Products, after `encode_mul_log` of log.rs: with offsets, Eq over the multiplier's bits and the numbers themselves. A call that is lent
 // no entries only counts.
 ghost use mathlib.Core.Path.{_≡_};
-ghost use mathlib.Core.Bool.{_&&_, false, not};
+ghost use mathlib.Core.Bool.{_&&_, false};
 ghost use mathlib.Core.List.{[]};
 ghost use Prim.Native.Nat.{_+_, _≤_, _<_};
 ghost use lib.IntN.{_*ℤ_, _-ℤ_};
@@ -12,7 +12,7 @@ ghost use Rattle.clause_set.specs.Stores.{after};
 ghost use Rattle.log_var.specs.Record.{encoding-of, int-map-of, lits-of};
 ghost use Rattle.log_var.specs.Size.{setting-shape};
 ghost use Rattle.log_adder.specs.Adder2.{eq-adder};
-ghost use Rattle.log_adder.specs.Size.{too-tall};
+ghost use Rattle.log_adder.specs.Size.{greatest-height, too-tall};
 ghost use Rattle.log_gather.specs.Arrays.{AllSmall};
 ghost use Rattle.log_linear.specs.Added.{add-rule, bits-of, rule-outcome};
 ghost use Rattle.log_linear.specs.EncodeLinearLog.{weighted};
@@ -24,6 +24,7 @@ ghost use Rattle.log_mul.specs.Multiply.{multiplier};
 ghost use Rattle.log_mul.specs.Size.{mul-reached, offsets-reached};
 ghost use Rattle.log_product.specs.Ready.{BitsReady, ColumnsReady, EqInputReady, FactorsReady, ProductReady, ProductsReady, multiply-then};
 use clause_set::Counts;
+use log_adder::higher;
 use log_adder2::EqInput;
 use log_adder2::order_carries;
 use log_adder2::push_returned_set;
@@ -31,14 +32,14 @@ use log_linear::Bits;
 use log_linear::RuleCounts;
 use log_mul::encode_product;
 use log_mul::log_encoding_multiplier;
-use log_mul::multiplier_fits;
+use log_mul::multiplier_height;
 use log_mul::product_bits;
 use log_sum::eq_constants;
 use log_sum::eq_target;
 use log_sum::excess;
 use log_sum::magnitude;
 use log_sum::term_lits;
-use log_sum::weighted_fit;
+use log_sum::weighted_height;
 use log_terms::Weighted;
 use log_terms::gather;
 use log_terms::width_of;
@@ -247,41 +248,39 @@ pub fn encode_mul_log(
     encode_mul(lits, ends, ex, ey, em, vars, at)
 }
 
-// With offsets: whether no column that the multiplier or Eq reaches is above 12.
-fn offsets_fit(x: LogEncoding, y: LogEncoding, m: LogEncoding) -> bool
+// With offsets: the greatest height of a column that the multiplier or Eq reaches.
+fn offsets_height(x: LogEncoding, y: LogEncoding, m: LogEncoding) -> u32
     requires { ⌜ SettingReady x × SettingReady y × SettingReady m ⌝ }
-    ensures { λ r. ⌜ r ≡ not (too-tall (offsets-reached (setting-shape (encoding-of x)) (setting-shape (encoding-of y)) (setting-shape (encoding-of m)))) ⌝ }
+    ensures { λ r. ⌜ r ≡ greatest-height (offsets-reached (setting-shape (encoding-of x)) (setting-shape (encoding-of y)) (setting-shape (encoding-of m))) ⌝ }
 {
     let nx = x.len as usize;
     let ny = y.len as usize;
-    if !multiplier_fits(nx, ny, 0) {
-        return false;
-    }
+    let own = multiplier_height(nx, ny, 0);
     let xy = product_bits(nx, ny, 0);
     let bits = xy.bits;
     let ts = offset_terms(x, y, m, bits);
     let k = mul_constant(x.offset, y.offset, m.offset);
-    weighted_fit(0, ts, 4, 12, k)
+    higher(own, weighted_height(0, ts, 4, 12, k))
 }
 
-// Whether no column that a product of three records reaches is above 12.
-fn records_fit(x: LogEncoding, y: LogEncoding, m: LogEncoding) -> bool
+// The greatest height of a column that a product of three records reaches.
+fn records_height(x: LogEncoding, y: LogEncoding, m: LogEncoding) -> u32
     requires { ⌜ SettingReady x × SettingReady y × SettingReady m ⌝ }
-    ensures { λ r. ⌜ r ≡ not (too-tall (mul-reached (setting-shape (encoding-of x)) (setting-shape (encoding-of y)) (setting-shape (encoding-of m)))) ⌝ }
+    ensures { λ r. ⌜ r ≡ greatest-height (mul-reached (setting-shape (encoding-of x)) (setting-shape (encoding-of y)) (setting-shape (encoding-of m))) ⌝ }
 {
     if offsets_zero(x.offset, y.offset, m.offset) {
-        return multiplier_fits(x.len as usize, y.len as usize, m.len as usize);
+        return multiplier_height(x.len as usize, y.len as usize, m.len as usize);
     }
-    offsets_fit(x, y, m)
+    offsets_height(x, y, m)
 }
 
-// Document 01's 13 of a product over the settings' records: whether no column reached is above 12.
-pub fn mul_fits(encodings: [LogEncoding; 32], x: u32, y: u32, m: u32) -> bool
+// The greatest height of a column that a product over the settings' records reaches: above 12, document 01's 13.
+pub fn mul_height(encodings: [LogEncoding; 32], x: u32, y: u32, m: u32) -> u32
     requires { ⌜ ProductsReady encodings x y m ⌝ }
-    ensures { λ r. ⌜ r ≡ not (too-tall (mul-reached (shape-map-of encodings x) (shape-map-of encodings y) (shape-map-of encodings m))) ⌝ }
+    ensures { λ r. ⌜ r ≡ greatest-height (mul-reached (shape-map-of encodings x) (shape-map-of encodings y) (shape-map-of encodings m)) ⌝ }
 {
     let ex = encodings[x as usize];
     let ey = encodings[y as usize];
     let em = encodings[m as usize];
-    records_fit(ex, ey, em)
+    records_height(ex, ey, em)
 }

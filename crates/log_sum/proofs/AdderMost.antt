@@ -6,7 +6,6 @@ use Prim.Native.Nat.{ℕ, zero, suc, _+_, _-_, _*_, _/_, _≤_}
 use native.Mathlib.Nat.{sub-zero}
 use native.Mathlib.Omega.{arith}
 use borrow.Author.Tests.{le-leb}
-use lib.Dec.{ltb}
 use lib.ListN.{length, length-append, length-map}
 use Rattle.sat.specs.Encoded.{EncodedBits}
 use Rattle.sat.specs.Fresh.{fresh}
@@ -21,10 +20,9 @@ use Rattle.mixed.proofs.Flip.{length-flip}
 use Rattle.log_adder.specs.Adder.{AdderColumn, add-column, adder, carry-size, empty-column, extend, result, result-vars, tail}
 use Rattle.log_adder.specs.Column.{column, column-ge, column-le}
 use Rattle.log_adder.specs.Gather.{Grid, with-constant}
-use Rattle.log_adder.specs.Size.{column-shape, height, reached, reached-column, too-tall}
+use Rattle.log_adder.specs.Size.{column-shape, reached, reached-column, too-tall}
 use Rattle.log_adder.proofs.ColumnTerms.{sizes-append}
 use Rattle.log_adder.proofs.Heights.{reached-fits}
-use Rattle.log_sum.proofs.Compared.{neither}
 
 -- One column ----------------------------------------------------------------------------------------------------------
 
@@ -115,7 +113,6 @@ adder-most (col ∷ cols) carry rs v b h t =
     let n = carry-size col carry in
     let r = reached-column (column-shape col) (length carry) in
     let z = length-fresh n v in
-    let high = reached-fits r (reached (map column-shape cols) (r .next)) t in
-    let left : too-tall (reached (map column-shape cols) n) ≡ false = neither (ltb 12 (height r)) (too-tall (reached (map column-shape cols) (r .next))) t .1 in
-    add-column-most col carry rs v (λ next w. adder cols next (tail rs) w) high (b .0)
-    (adder-most cols (fresh n v) (tail rs) (result-vars rs (v + n)) (b .1) (omega arith) (rw z left))
+    let fits = reached-fits r (reached (map column-shape cols) (r .next)) t in
+    add-column-most col carry rs v (λ next w. adder cols next (tail rs) w) (fits .0) (b .0)
+    (adder-most cols (fresh n v) (tail rs) (result-vars rs (v + n)) (b .1) (omega (arith, fits .0)) (rw z (fits .1)))

@@ -1,17 +1,16 @@
 -- Ne and Ge: both parts of a sum, then the comparison of their bits.
-use mathlib.Core.Path.{_≡_, refl, ap, sym, _∙_}
-use mathlib.Core.Bool.{Bool, false, true, _||_}
+use mathlib.Core.Path.{_≡_, ap, sym, _∙_}
+use mathlib.Core.Bool.{false}
 use mathlib.Core.List.{List, [], _∷_, _++_}
-use Prim.Native.Nat.{ℕ, _≤_}
+use Prim.Native.Nat.{ℕ, _≤_, max}
 use native.Mathlib.Omega.{arith}
-use lib.Dec.{ltb}
-use Rattle.arithmetic.proofs.Tests.{or-assoc}
+use borrow.Author.Tests.{le-ltb, ltb-false}
 use Rattle.sat.specs.Encoded.{EncodedBits, EncodedRule}
 use Rattle.clause_set.specs.Stores.{Stores, add-clauses, after}
 use Rattle.clause_set.specs.declared.Counts.{Counts}
 use Rattle.clause_set.proofs.Adding.{add-append}
 use Rattle.log_adder.specs.AdderState.{Outcome}
-use Rattle.log_adder.specs.Size.{Reached, height, too-tall}
+use Rattle.log_adder.specs.Size.{Reached, greatest-height, too-tall}
 use Rattle.log_adder.specs.declared.AdderState.{AdderState}
 use Rattle.log_linear.specs.Added.{add-rule, bits-of, rule-outcome}
 use Rattle.log_linear.specs.Linear.{compare}
@@ -21,17 +20,15 @@ use Rattle.log_sum.specs.declared.Sums.{Sums}
 
 -- Heights -------------------------------------------------------------------------------------------------------------
 
-pub tall-append : (xs ys : List Reached) → too-tall (xs ++ ys) ≡ (too-tall xs || too-tall ys)
-tall-append [] ys = refl
-tall-append (x ∷ xs) ys =
-    ap (λ (t : Bool). ltb 12 (height x) || t) (tall-append xs ys) ∙ sym (or-assoc (ltb 12 (height x)) (too-tall xs) (too-tall ys))
-
-pub neither : (a b : Bool) → (a || b) ≡ false → (a ≡ false) × (b ≡ false)
-neither true b h = let z : _≡_ {A = ℕ} 0 1 = cc in absurd (omega arith)
-neither false b h = (refl, h)
+pub height-append : (xs ys : List Reached) → greatest-height (xs ++ ys) ≡ max (greatest-height xs) (greatest-height ys)
+height-append [] ys = omega arith
+height-append (x ∷ xs) ys = omega (arith, height-append xs ys)
 
 pub both-fit : (xs ys : List Reached) → too-tall (xs ++ ys) ≡ false → (too-tall xs ≡ false) × (too-tall ys ≡ false)
-both-fit xs ys h = neither (too-tall xs) (too-tall ys) (sym (tall-append xs ys) ∙ h)
+both-fit xs ys h =
+    let low = ltb-false 12 (greatest-height (xs ++ ys)) h in
+    let e = height-append xs ys in
+    (le-ltb 12 (greatest-height xs) (omega arith), le-ltb 12 (greatest-height ys) (omega arith))
 
 -- Both parts ----------------------------------------------------------------------------------------------------------
 

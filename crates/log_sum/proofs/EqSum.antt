@@ -49,14 +49,14 @@ no-columns-are ws a b x y v p h = (λ i. eq-rule (eq-adder [] (p .x-is i) (p .y-
 
 module _ (ws : List Weighted) {cols : List (List Lit)} {counts : List ℕ} (g : Gathered (gather ws []) cols counts) (w : ℕ) (wide : w ≡ length (gather ws [])) (few : w ≤ 25)
     (a b x y : ℕ) (p : EqParts ws a b x y) where
-  -- the heights are the definition's
-  pub eq-tall : too-tall (eq-reached (take w counts) x y 0) ≡ too-tall (linear-reached eq (map shape-of ws) a b)
-  eq-tall =
+  -- the columns reached are the definition's
+  pub eq-reaches : eq-reached (take w counts) x y 0 ≡ linear-reached eq (map shape-of ws) a b
+  eq-reaches =
       let n = negated-bits-are ws in
       let i : x ≡ a - (b + negated-bits (map shape-of ws)) = omega (arith, p .x-is) in
       let j : y ≡ b + negated-bits (map shape-of ws) - a = omega (arith, p .y-is) in
       let h : take w counts ≡ gather-counts (map shape-of ws) [] = counts-are g w wide (omega arith) ∙ gather-counts-are ws [] in
-      λ k. too-tall (eq-reached (h k) (i k) (j k) 0)
+      λ k. eq-reached (h k) (i k) (j k) 0
 
   module _ (some : 1 ≤ w) (fits : too-tall (linear-reached eq (map shape-of ws) a b) ≡ false) (v : ℕ) where
     abbrev input : EqInput
@@ -69,7 +69,7 @@ module _ (ws : List Weighted) {cols : List (List Lit)} {counts : List ℕ} (g : 
     pub eq-added : {d e d′ e′ : List ℕ} (c : Counts) (r : EqCounts) → EqAdded d e cols counts input c d′ e′ r
         → rule-outcome d′ e′ (record { vars = r .vars; used = r .used }) ≡ add-rule (eq-rule (linear-eq ws a b v)) (after d e c)
     eq-added {d} {e} {d′} {e′} c r h =
-        let out = eq-output-is g input wide some few (eq-tall ∙ fits) in
+        let out = eq-output-is g input wide some few (ap too-tall eq-reaches ∙ fits) in
         let s = h .stores ∙ ap (λ (o : Adder2Output). add-clauses 0 (adder2-clauses o) (after d e c)) out in
         let n = h .vars ∙ ap (λ (o : Adder2Output). o .vars) out in
         let one : rule-outcome d′ e′ (record { vars = r .vars; used = r .used }) ≡ add-rule (eq-rule (eq-adder (gather ws []) x y v)) (after d e c) =

@@ -1,8 +1,8 @@
 -- The two parts of a whole number, and an operation by its number.
-use mathlib.Core.Path.{_≡_, refl, sym, _∙_}
-use mathlib.Core.Bool.{Bool, false, not, true, true≢false}
+use mathlib.Core.Path.{_≡_, ap, refl, sym, _∙_}
+use mathlib.Core.Bool.{false, true, true≢false}
 use mathlib.Core.List.{List, _++_}
-use Prim.Native.Nat.{ℕ, zero, suc, _<_}
+use Prim.Native.Nat.{ℕ, zero, suc, _<_, max}
 use native.Mathlib.Omega.{arith}
 use borrow.Author.Tests.{ltb-true}
 use lib.IntN.{negsuc, pos, ℤ}
@@ -12,11 +12,11 @@ use Rattle.arithmetic.specs.Offset.{code}
 use Rattle.arithmetic.proofs.Integers.{order-read}
 use Rattle.arithmetic.proofs.Offset.{code-read}
 use Rattle.norm_csp.specs.Rules.{ge, op-of}
-use Rattle.log_adder.specs.Size.{too-tall}
+use Rattle.log_adder.specs.Size.{greatest-height}
 use Rattle.log_linear.specs.EncodeLinearLog.{encode-weighted, eq-rule}
 use Rattle.log_linear.specs.Linear.{Weighted, linear-eq, linear-ge, linear-ne}
 use Rattle.log_linear.specs.Size.{WeightedShape, linear-reached, sign-reached}
-use Rattle.log_sum.proofs.Compared.{tall-append}
+use Rattle.log_sum.proofs.Compared.{height-append}
 
 pub negative-read : (z : ℤ) → ltZ z (pos 0) ≡ true → (up z ≡ 0) × (z ≤ℤ pos 0)
 negative-read (pos n) e = let h : n < 0 = ltb-true n 0 e in absurd (omega arith)
@@ -45,22 +45,10 @@ reached-parts zero p ps a b = absurd (p refl)
 reached-parts (suc zero) p ps a b = refl
 reached-parts (suc (suc n)) p ps a b = refl
 
-not-twice : (a b : Bool) → a ≡ not b → a ≡ false → b ≡ true
-not-twice a true p q = refl
-not-twice a false p q = sym q ∙ p
-
-not-once : (a b : Bool) → a ≡ not b → a ≡ true → b ≡ false
-not-once a true p q = sym q ∙ p
-not-once a false p q = refl
-
--- the test of the positive part, then that of the negative part
-pub first-tall : (n : ℕ) (h : n ≡ 0 → ⊥) (ps : List WeightedShape) (a b : ℕ) (r : Bool) → r ≡ not (too-tall (sign-reached false ps a)) → r ≡ false
-    → false ≡ not (too-tall (linear-reached (op-of n) ps a b))
-first-tall n h ps a b r e f = rw (reached-parts n h ps a b, tall-append (sign-reached false ps a) (sign-reached true ps b), not-twice r (too-tall (sign-reached false ps a)) e f)
-
-pub second-decides : (n : ℕ) (h : n ≡ 0 → ⊥) (ps : List WeightedShape) (a b : ℕ) (r : Bool) → r ≡ not (too-tall (sign-reached false ps a)) → r ≡ true
-    → not (too-tall (sign-reached true ps b)) ≡ not (too-tall (linear-reached (op-of n) ps a b))
-second-decides n h ps a b r e f = rw (reached-parts n h ps a b, tall-append (sign-reached false ps a) (sign-reached true ps b), not-once r (too-tall (sign-reached false ps a)) e f)
+-- the higher part decides
+pub higher-part : (n : ℕ) (h : n ≡ 0 → ⊥) (ps : List WeightedShape) (a b : ℕ)
+    → max (greatest-height (sign-reached false ps a)) (greatest-height (sign-reached true ps b)) ≡ greatest-height (linear-reached (op-of n) ps a b)
+higher-part n h ps a b = sym (ap greatest-height (reached-parts n h ps a b) ∙ height-append (sign-reached false ps a) (sign-reached true ps b))
 
 -- the clauses of each operation
 module _ (n : ℕ) where

@@ -37,13 +37,13 @@ module _ (s : Bool) (ps : List Weighted) {cols : List (List Lit)} {counts : List
       constant-shapes-are g k w low wide (omega arith) ∙ with-constant-shapes 32 grid k
       ∙ ap (λ (hs : List ℕ). constant-shapes 32 hs k) (gather-sign-counts s ps ([] ∷ []))
 
-  -- the heights are the definition's
-  pub sign-tall : too-tall (reached (input-shapes w 0 counts k) 0) ≡ too-tall (sign-reached s (map shape-of ps) k)
-  sign-tall = ap (λ (cs : List ColumnShape). too-tall (reached cs 0)) sign-shapes
+  -- the columns reached are the definition's
+  pub sign-reaches : reached (input-shapes w 0 counts k) 0 ≡ sign-reached s (map shape-of ps) k
+  sign-reaches = ap (λ (cs : List ColumnShape). reached cs 0) sign-shapes
 
   module _ (fits : too-tall (sign-reached s (map shape-of ps) k) ≡ false) where
     sign-columns : input-columns w 0 cols counts k ≡ with-constant 32 grid k
-    sign-columns = constant-columns-are g k w low wide (omega arith) (sign-tall ∙ fits)
+    sign-columns = constant-columns-are g k w low wide (omega arith) (ap too-tall sign-reaches ∙ fits)
 
     -- what the adder asks
     pub sign-ready : (given : List Lit) → AllLow given → AdderFits cols counts given (record { width = w; constant = k; given = 0 })

@@ -1,7 +1,7 @@
 // Sums, after `encode_linear_log` and `encode_linear_log_from_encodings` of log.rs: the terms in columns, the two adders, the
 // comparison. A call that is lent no entries only counts.
 ghost use mathlib.Core.Path.{_≡_};
-ghost use mathlib.Core.Bool.{false, not, true};
+ghost use mathlib.Core.Bool.{false, true};
 ghost use mathlib.Core.List.{[], _∷_, _++_};
 ghost use Prim.Native.Nat.{max, _+_, _-_, _*_, _/_, _≤_, _<_};
 ghost use lib.IntN.{pos, _*ℤ_, _+ℤ_};
@@ -11,7 +11,7 @@ ghost use Rattle.arithmetic.specs.Integers.{down, up};
 ghost use Rattle.clause_set.specs.Stores.{after};
 ghost use Rattle.norm_csp.specs.Rules.{eq, op-of, terms-of};
 ghost use Rattle.log_adder.specs.Adder2.{eq-adder};
-ghost use Rattle.log_adder.specs.Size.{too-tall};
+ghost use Rattle.log_adder.specs.Size.{greatest-height, too-tall};
 ghost use Rattle.log_gather.specs.Arrays.{AllSmall};
 ghost use Rattle.sat.specs.LitArray.{first-lits};
 ghost use Rattle.log_linear.specs.Added.{add-rule, rule-outcome};
@@ -29,10 +29,11 @@ use clause_set::Counts;
 use clause_set::push;
 use log_adder::AdderInput;
 use log_adder::AdderState;
-use log_adder::heights_fit;
+use log_adder::greatest_height;
+use log_adder::higher;
 use log_adder::log_encoding_adder;
 use log_adder2::EqInput;
-use log_adder2::eq_heights_fit;
+use log_adder2::eq_greatest_height;
 use log_adder2::log_encoding_adder2;
 use log_gather::larger;
 use log_linear::Bits;
@@ -59,16 +60,16 @@ fn adder_width(ts: [Weighted; 7], n: usize, sign: bool, steps: usize, constant: 
     larger(own, more)
 }
 
-// Whether no column that the adder of one sign reaches is above 12.
-fn sign_fits(ts: [Weighted; 7], n: usize, sign: bool, steps: usize, constant: u32) -> bool
+// The greatest height of a column that the adder of one sign reaches.
+fn sign_height(ts: [Weighted; 7], n: usize, sign: bool, steps: usize, constant: u32) -> u32
     requires { ⌜ TermsFit steps ts n ⌝ }
     requires { ⌜ constant < 33554432 ⌝ }
-    ensures { λ r. ⌜ r ≡ not (too-tall (sign-reached sign (shapes-all ts n) constant)) ⌝ }
+    ensures { λ r. ⌜ r ≡ greatest-height (sign-reached sign (shapes-all ts n) constant) ⌝ }
 {
     let mut counts = [0u32; 32];
     gather_sign(ts, n, sign, steps, &mut counts);
     let width = adder_width(ts, n, sign, steps, constant);
-    heights_fit(counts, width, constant)
+    greatest_height(counts, width, constant)
 }
 
 // The sum of the terms of one sign and a constant.
@@ -202,17 +203,17 @@ pub fn eq_target(ts: [Weighted; 7], n: usize, b: u32) -> u32
     b + negated_constant(ts, n)
 }
 
-// Whether no column that Eq reaches is above 12.
-fn eq_fits(ts: [Weighted; 7], n: usize, steps: usize, a: u32, b: u32) -> bool
+// The greatest height of a column that Eq reaches.
+fn eq_height(ts: [Weighted; 7], n: usize, steps: usize, a: u32, b: u32) -> u32
     requires { ⌜ TermsFit steps ts n ⌝ }
     requires { ⌜ (a < 33554432) × (b < 33554432) ⌝ }
-    ensures { λ r. ⌜ r ≡ not (too-tall (linear-reached eq (shapes-all ts n) a b)) ⌝ }
+    ensures { λ r. ⌜ r ≡ greatest-height (linear-reached eq (shapes-all ts n) a b) ⌝ }
 {
     let mut counts = [0u32; 32];
     gather(ts, n, steps, &mut counts);
     let width = width_of(ts, n, steps);
     let target = eq_target(ts, n, b);
-    eq_heights_fit(counts, width, excess(a, target), excess(target, a))
+    eq_greatest_height(counts, width, excess(a, target), excess(target, a))
 }
 
 // Eq without columns: an empty clause, unless x is y.
@@ -288,21 +289,20 @@ pub fn down(z: i32) -> u32
     0
 }
 
-// Document 01's 13 of a sum of terms: whether no column reached is above 12. Operation 0 is Eq, 1 Ne, 2 Ge.
-pub fn weighted_fit(op: u32, ts: [Weighted; 7], n: usize, steps: usize, constant: i32) -> bool
+// The greatest height of a column that a sum of terms reaches. Operation 0 is Eq, 1 Ne, 2 Ge.
+pub fn weighted_height(op: u32, ts: [Weighted; 7], n: usize, steps: usize, constant: i32) -> u32
     requires { ⌜ TermsFit steps ts n ⌝ }
     requires { ⌜ (up constant < 33554432) × (down constant < 33554432) ⌝ }
-    ensures { λ r. ⌜ r ≡ not (too-tall (linear-reached (op-of op) (shapes-all ts n) (up constant) (down constant))) ⌝ }
+    ensures { λ r. ⌜ r ≡ greatest-height (linear-reached (op-of op) (shapes-all ts n) (up constant) (down constant)) ⌝ }
 {
     let a = up(constant);
     let b = down(constant);
     if op == 0 {
-        return eq_fits(ts, n, steps, a, b);
+        return eq_height(ts, n, steps, a, b);
     }
-    if !sign_fits(ts, n, false, steps, a) {
-        return false;
-    }
-    sign_fits(ts, n, true, steps, b)
+    let positive = sign_height(ts, n, false, steps, a);
+    let negative = sign_height(ts, n, true, steps, b);
+    higher(positive, negative)
 }
 
 // The clauses of a sum of terms, after `encode_linear_log_from_encodings` of log.rs: its columns fit.
@@ -444,15 +444,15 @@ fn offset_constant(encodings: [LogEncoding; 32], constant: i32, terms: &[i32]) -
     sum
 }
 
-// Document 01's 13 of a sum over the settings' records: whether no column reached is above 12.
-pub fn linear_fits(encodings: [LogEncoding; 32], op: u32, constant: i32, terms: &[i32]) -> bool
+// The greatest height of a column that a sum over the settings' records reaches: above 12, document 01's 13.
+pub fn linear_height(encodings: [LogEncoding; 32], op: u32, constant: i32, terms: &[i32]) -> u32
     requires { ⌜ TermsReady encodings (now terms) ⌝ }
     requires { ⌜ (up constant ≤ 1000000) × (down constant ≤ 1000000) ⌝ }
-    ensures { λ r. ⌜ r ≡ not (too-tall (linear-log-reached (shape-map-of encodings) (op-of op) constant (terms-of (now (terms .entry))))) ⌝ }
+    ensures { λ r. ⌜ r ≡ greatest-height (linear-log-reached (shape-map-of encodings) (op-of op) constant (terms-of (now (terms .entry)))) ⌝ }
 {
     let ts = weighted_terms(encodings, terms);
     let k = offset_constant(encodings, constant, terms);
-    weighted_fit(op, ts, terms.len() / 2, 8, k)
+    weighted_height(op, ts, terms.len() / 2, 8, k)
 }
 
 // The clauses of a sum over the settings' records, after `encode_linear_log` of log.rs: its columns fit.

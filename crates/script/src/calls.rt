@@ -8,26 +8,41 @@ use sat::Lit;
 use words::Signed;
 use words::Unsigned;
 
-// The job after a line, and whether the line could be read.
+// The job after a line, whether the line could be read, and what a call answered.
 pub struct Next {
     pub env: EncoderEnv,
     pub good: bool,
+    pub status: u32,
+    pub value: i32,
 }
 
 fn good(env: EncoderEnv) -> Next {
-    Next { env, good: true }
+    Next {
+        env,
+        good: true,
+        status: 0,
+        value: 0,
+    }
 }
 
 fn bad(env: EncoderEnv) -> Next {
-    Next { env, good: false }
+    Next {
+        env,
+        good: false,
+        status: 0,
+        value: 0,
+    }
 }
 
-// The answer is printed, and its job kept.
+// The answer's job is kept.
 fn answered(a: Answer) -> Next {
     let env = a.env;
-    super::print::answer(a.status, a.value, env);
-    super::print::text(b"\n");
-    good(env)
+    Next {
+        env,
+        good: true,
+        status: a.status,
+        value: a.value,
+    }
 }
 
 // `open N`
@@ -85,43 +100,24 @@ fn binary(nums: &[i64], env: EncoderEnv, lits: &mut [u32], ends: &mut [u32]) -> 
     answered(encoder::encode_binary(env, lits, ends, Lit(c), f, t))
 }
 
-// `linear OP CONSTANT [SETTING COEFFICIENT]..`: what follows the constant is one list, which may lack its last coefficient.
+// `linear OP CONSTANT [SETTING COEFFICIENT]..`
 fn linear(nums: &[i64], env: EncoderEnv, lits: &mut [u32], ends: &mut [u32]) -> Next {
-    if nums.len() < 2 {
-        return bad(env);
-    }
-    let m = nums.len() - 2;
-    if m > 4096 {
-        return bad(env);
-    }
-    let Unsigned::Value(op) = lines::unsigned_at(nums, 0) else {
-        return bad(env);
-    };
-    let Signed::Value(constant) = lines::signed_at(nums, 1) else {
-        return bad(env);
-    };
     let mut terms = [0i32; 4096];
-    if !lines::signed_list(&nums[2..], &mut terms) {
+    let s = super::rules::sum_of(nums, &mut terms);
+    if !s.good {
         return bad(env);
     }
-    answered(encode_linear(env, lits, ends, op, constant, &terms[..m]))
+    let n = s.count;
+    answered(encode_linear(env, lits, ends, s.op, s.constant, &terms[..n]))
 }
 
 // `mul X Y M`
 fn mul(nums: &[i64], env: EncoderEnv, lits: &mut [u32], ends: &mut [u32]) -> Next {
-    if nums.len() != 3 {
+    let p = super::rules::product_of(nums);
+    if !p.good {
         return bad(env);
     }
-    let Unsigned::Value(x) = lines::unsigned_at(nums, 0) else {
-        return bad(env);
-    };
-    let Unsigned::Value(y) = lines::unsigned_at(nums, 1) else {
-        return bad(env);
-    };
-    let Unsigned::Value(m) = lines::unsigned_at(nums, 2) else {
-        return bad(env);
-    };
-    answered(encode_mul(env, lits, ends, x, y, m))
+    answered(encode_mul(env, lits, ends, p.x, p.y, p.m))
 }
 
 // `read SETTING BYTE..`
@@ -203,8 +199,11 @@ fn show(nums: &[i64], env: EncoderEnv, lits: &[u32], ends: &[u32]) -> Next {
     good(env)
 }
 
-// A word that adds a setting or a rule.
-fn encode(word: Word, nums: &[i64], env: EncoderEnv, lits: &mut [u32], ends: &mut [u32]) -> Next {
+// A word that opens a job, or adds a setting or a rule: nothing is printed.
+pub fn call(word: Word, nums: &[i64], env: EncoderEnv, lits: &mut [u32], ends: &mut [u32]) -> Next {
+    if lines::is_word(word, b"open") {
+        return open(nums, env, lits, ends);
+    }
     if lines::is_word(word, b"range") {
         return range(nums, env, lits, ends);
     }
@@ -223,6 +222,16 @@ fn encode(word: Word, nums: &[i64], env: EncoderEnv, lits: &mut [u32], ends: &mu
     bad(env)
 }
 
+// The answer of a call is printed.
+fn printed(next: Next) -> Next {
+    let env = next.env;
+    if next.good {
+        super::print::answer(next.status, next.value, env);
+        super::print::text(b"\n");
+    }
+    next
+}
+
 // Every word but `stores`.
 pub fn answer(
     word: Word,
@@ -231,11 +240,8 @@ pub fn answer(
     lits: &mut [u32],
     ends: &mut [u32],
 ) -> Next {
-    if lines::is_word(word, b"open") {
-        return open(nums, env, lits, ends);
-    }
     if lines::is_word(word, b"read") {
-        return read(nums, env, lits, ends);
+        return printed(read(nums, env, lits, ends));
     }
     if lines::is_word(word, b"clause") {
         return clause(nums, env, lits, ends);
@@ -252,5 +258,5 @@ pub fn answer(
     if lines::is_word(word, b"show") {
         return show(nums, env, lits, ends);
     }
-    encode(word, nums, env, lits, ends)
+    printed(call(word, nums, env, lits, ends))
 }

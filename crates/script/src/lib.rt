@@ -9,10 +9,15 @@
 // prints `bad line N` and ends the run; an empty line is passed over.
 mod calls;
 mod print;
+mod rules;
 
+pub use calls::Next;
+pub use calls::call;
 use encoder_env::EncoderEnv;
 use lines::Line;
 use lines::Word;
+pub use rules::product_of;
+pub use rules::sum_of;
 use words::Unsigned;
 ghost use mathlib.Core.Path.{_≡_};
 ghost use Prim.Native.Nat.{_≤_};

@@ -1,7 +1,8 @@
 -- `columns_check::run_adder` meets its contract.
-use mathlib.Core.Path.{refl, sym, _∙_}
+use mathlib.Core.Path.{ap, refl, sym, _∙_}
+use lib.Dec.{ltb}
 use native.Mathlib.Omega.{arith}
-use borrow.Author.Tests.{ltb-false, not-false, not-true}
+use borrow.Author.Tests.{le-ltb, ltb-false}
 use borrow.Author.Needs.{needs}
 use Rattle.columns_check.proofs.run_adder.Statement.{statement}
 use Rattle.columns_check.proofs.run_adder.Tie as tie
@@ -59,8 +60,8 @@ gather-requires c κs =
 number-requires-4 : tie.Need-number-requires-4
 number-requires-4 c κs = search needs
 
-heights-fit-requires : tie.Need-heights-fit-requires
-heights-fit-requires c κs =
+greatest-height-requires : tie.Need-greatest-height-requires
+greatest-height-requires c κs =
     let s = c .before .before .before .before .before in
     let g = c .before .gather .ensures in
     (omega (arith, ltb-false), λ i. let k = g .few i in omega arith)
@@ -84,6 +85,7 @@ log-encoding-adder-requires : tie.Need-log-encoding-adder-requires
 log-encoding-adder-requires c κs =
     let s = c .before .before .before .before .before .before .before .before .before .before .before in
     let g = c .before .before .before .before .before .before .before .gather .ensures in
+    let h = c .before .before .before .before .before .greatest-height in
     let e = c .nothing .ensures in (
       record {
         width = omega (arith, ltb-false);
@@ -92,7 +94,7 @@ log-encoding-adder-requires c κs =
         results = c .before .before .before .results .ensures;
       },
       (
-        not-true _ (sym (c .before .before .before .before .before .heights-fit .ensures) ∙ not-false _ (c .before .before .before .before .if6 .left)),
+        ap (ltb 12) (sym (h .ensures)) ∙ le-ltb 12 (h .result) (c .before .before .before .before .if6 .left),
         (omega (arith, ltb-false), omega (arith, e .1), omega (arith, e .0)),
       ),
     )
@@ -133,7 +135,7 @@ run-adder-spec =
     add-gather
     gather-requires
     number-requires-4
-    heights-fit-requires
+    greatest-height-requires
     slice-aggregate-show-3
     show-requires-3
     returns-3

@@ -1,7 +1,8 @@
 -- `columns_check::run_eq_adder` meets its contract.
-use mathlib.Core.Path.{sym, _∙_}
+use mathlib.Core.Path.{ap, sym, _∙_}
+use lib.Dec.{ltb}
 use native.Mathlib.Omega.{arith}
-use borrow.Author.Tests.{eqb-false, ltb-false, not-false, not-true}
+use borrow.Author.Tests.{eqb-false, le-ltb, ltb-false}
 use borrow.Author.Needs.{needs}
 use Rattle.columns_check.proofs.run_eq_adder.Statement.{statement}
 use Rattle.columns_check.proofs.run_eq_adder.Tie as tie
@@ -36,8 +37,8 @@ returns c = search needs
 gather-requires : tie.Need-gather-requires
 gather-requires c κs = search needs
 
-eq-heights-fit-requires : tie.Need-eq-heights-fit-requires
-eq-heights-fit-requires c κs =
+eq-greatest-height-requires : tie.Need-eq-greatest-height-requires
+eq-greatest-height-requires c κs =
     let s = c .before .before .before .before in
     let g = c .gather .ensures in
     let x = c .before .before .before .before .before .before .before .before .before .before .number3 .ensures in
@@ -60,6 +61,7 @@ log-encoding-adder2-requires : tie.Need-log-encoding-adder2-requires
 log-encoding-adder2-requires c κs =
     let s = c .before .before .before .before .before .before .before .before .before in
     let g = c .before .before .before .before .before .gather .ensures in
+    let h = c .before .before .before .before .eq-greatest-height in
     let e = c .nothing .ensures in (
       record {
         some = omega (arith, eqb-false);
@@ -70,7 +72,7 @@ log-encoding-adder2-requires c κs =
         own = g .arrays .low;
         wide = g .arrays .wide;
       },
-      (not-true _ (sym (c .before .before .before .before .eq-heights-fit .ensures) ∙ not-false _ (c .before .before .before .if7 .left)), (omega (arith, e .1), omega (arith, e .0))),
+      (ap (ltb 12) (sym (h .ensures)) ∙ le-ltb 12 (h .result) (c .before .before .before .if7 .left), (omega (arith, e .1), omega (arith, e .0))),
     )
 
 slice-aggregate-show-3 : tie.Need-slice-aggregate-show-3
@@ -108,7 +110,7 @@ run-eq-adder-spec =
     show-requires
     returns
     gather-requires
-    eq-heights-fit-requires
+    eq-greatest-height-requires
     slice-aggregate-show-2
     show-requires-2
     returns-2

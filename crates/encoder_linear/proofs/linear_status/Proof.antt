@@ -1,6 +1,8 @@
 -- `encoder::sums::linear_status` meets its contract.
 use borrow.Author.Needs.{needs}
-use borrow.Author.Tests.{not-false, not-true}
+use borrow.Author.Tests.{le-ltb, lt-ltb}
+use Prim.Native.Nat.{ℕ}
+use lib.Dec.{ltb}
 use mathlib.Core.Path.{_≡_, _∙_, ap, sym}
 use mathlib.Core.Bool.{Bool, cond, not}
 use mathlib.Core.List.{List, [], _++_, _∷_}
@@ -10,7 +12,7 @@ use mir.Syntax.{w32}
 use mir.Val.{ofZ, toZ}
 use mir.ValLaws.{toZ-ofZ}
 use Rattle.norm_csp.specs.Rules.{op-of, terms-of}
-use Rattle.log_adder.specs.Size.{too-tall}
+use Rattle.log_adder.specs.Size.{greatest-height, too-tall}
 use Rattle.log_linear.specs.Size.{linear-log-reached}
 use Rattle.log_sum.specs.Settings.{shape-map-of}
 use Rattle.encoder_answer.specs.Outcome.{Check, check, status-of}
@@ -48,26 +50,26 @@ returns c = checked (c .before) ∙ sym (stops (first (c .before .before)) (last
 known : (c : tie.Else1) → let a = c .before .before .args in ArgumentsKnown (a .env) (a .lits) (a .ends) (a .op) (a .constant) (a .terms .now)
 known c = let a = c .before .before .args in arguments-known (a .env) (a .lits) (a .ends) (a .op) (a .constant) (a .terms .now) (passed-all c)
 
-linear-fits-requires : tie.Need-linear-fits-requires
-linear-fits-requires c κs =
+linear-height-requires : tie.Need-linear-height-requires
+linear-height-requires c κs =
     let a = c .before .before .before .args in
     let k = known (c .before) in
     (terms-ready (a .env) (a .lits) (a .ends) (a .op) (a .constant) (a .terms .now) k, rw (constant-is (c .before .before .before)) (omega (arith, k .constant-small), omega (arith, k .constant-small)))
 
-heights-tested : (c : tie.After-linear-fits) → let a = c .before .before .before .before .args in c .linear-fits .result ≡ not (too-tall (sum-reached (a .env) (a .op) (a .constant) (a .terms .now)))
-heights-tested c =
+height-is : (c : tie.After-linear-height) → let a = c .before .before .before .before .args in c .linear-height .result ≡ greatest-height (sum-reached (a .env) (a .op) (a .constant) (a .terms .now))
+height-is c =
     let a = c .before .before .before .before .args in
-    c .linear-fits .ensures
-    ∙ ap (λ (z : ℤ). not (too-tall (linear-log-reached (shape-map-of (a .env .encodings)) (op-of (a .op)) z (terms-of (a .terms .now))))) (constant-is (c .before .before .before .before))
+    c .linear-height .ensures
+    ∙ ap (λ (z : ℤ). greatest-height (linear-log-reached (shape-map-of (a .env .encodings)) (op-of (a .op)) z (terms-of (a .terms .now)))) (constant-is (c .before .before .before .before))
 
 rest : (c : tie.Else1) → status-of (first (c .before .before) ++ last (c .before .before)) ≡ status-of (last (c .before .before))
 rest c = let a = c .before .before .args in then-rest (first (c .before .before)) (last (c .before .before)) (arguments-numbered (a .env) (a .lits) (a .ends) (a .op) (a .constant) (a .terms .now)) (passed-all c)
 
 returns-2 : tie.Need-returns-2
-returns-2 c = sym (rest (c .before .before .before) ∙ ap (λ (b : Bool). cond b 0 13) (sym (heights-tested (c .before)) ∙ not-true _ (c .if2 .taken)))
+returns-2 c = sym (rest (c .before .before .before) ∙ ap (λ (n : ℕ). cond (not (ltb 12 n)) 0 13) (sym (height-is (c .before))) ∙ ap (λ (b : Bool). cond (not b) 0 13) (lt-ltb 12 (c .before .linear-height .result) (c .if2 .taken)))
 
 returns-3 : tie.Need-returns-3
-returns-3 c = sym (rest (c .before .before .before) ∙ ap (λ (b : Bool). cond b 0 13) (sym (heights-tested (c .before)) ∙ not-false _ (c .if2 .left)))
+returns-3 c = sym (rest (c .before .before .before) ∙ ap (λ (n : ℕ). cond (not (ltb 12 n)) 0 13) (sym (height-is (c .before))) ∙ ap (λ (b : Bool). cond (not b) 0 13) (le-ltb 12 (c .before .linear-height .result) (c .if2 .left)))
 
 pub linear-status-spec : {M : Type 1} → statement M
-linear-status-spec = tie.close (tie.spec argument-status-requires returns linear-fits-requires returns-2 returns-3)
+linear-status-spec = tie.close (tie.spec argument-status-requires returns linear-height-requires returns-2 returns-3)

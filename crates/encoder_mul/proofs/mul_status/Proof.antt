@@ -2,9 +2,9 @@
 use borrow.Author.Needs.{needs}
 use borrow.Author.Tests.{le-ltb, lt-ltb, not-false, not-true}
 use mathlib.Core.Path.{_≡_, _∙_, sym}
-use mathlib.Core.Bool.{not, true}
+use mathlib.Core.Bool.{true}
 use lib.Dec.{ltb}
-use Rattle.log_adder.specs.Size.{too-tall}
+use Rattle.log_adder.specs.Size.{greatest-height}
 use Rattle.encoder_env.specs.WellFormed.{well-formed}
 use Rattle.encoder_env.proofs.Kept.{kept}
 use Rattle.encoder_mul.specs.Products.{product-reached}
@@ -40,19 +40,19 @@ returns-3 c = let a = c .before .before .before .before .before .before .args in
 returns-4 : tie.Need-returns-4
 returns-4 c = let a = c .before .before .before .before .before .before .before .before .args in rw (held (c .before .before .before .before .before .before), x-known (c .before .before .before .before), y-known (c .before .before), le-ltb (a .m) (a .env .count) (c .if4 .taken))
 
-mul-fits-requires : tie.Need-mul-fits-requires
-mul-fits-requires c κs =
+mul-height-requires : tie.Need-mul-height-requires
+mul-height-requires c κs =
     let a = c .before .before .before .before .before .before .before .before .before .args in
     settings-ready (a .env) (a .lits) (a .ends) (a .x) (a .y) (a .m) (kept (a .env) (a .lits) (a .ends) (held (c .before .before .before .before .before .before .before))) (c .before .before .before .before .before .if2 .left) (c .before .before .before .if3 .left) (c .before .if4 .left)
 
-heights-tested : (c : tie.After-mul-fits) → let a = c .before .before .before .before .before .before .before .before .before .before .args in c .mul-fits .result ≡ not (too-tall (product-reached (a .env) (a .x) (a .y) (a .m)))
-heights-tested c = c .mul-fits .ensures
+height-is : (c : tie.After-mul-height) → let a = c .before .before .before .before .before .before .before .before .before .before .args in c .mul-height .result ≡ greatest-height (product-reached (a .env) (a .x) (a .y) (a .m))
+height-is c = c .mul-height .ensures
 
 returns-5 : tie.Need-returns-5
-returns-5 c = rw (held (c .before .before .before .before .before .before .before .before .before), x-known (c .before .before .before .before .before .before .before), y-known (c .before .before .before .before .before), m-known (c .before .before .before), ← heights-tested (c .before), not-true (c .before .mul-fits .result) (c .if5 .taken))
+returns-5 c = rw (held (c .before .before .before .before .before .before .before .before .before), x-known (c .before .before .before .before .before .before .before), y-known (c .before .before .before .before .before), m-known (c .before .before .before), ← height-is (c .before), lt-ltb 12 (c .before .mul-height .result) (c .if5 .taken))
 
 returns-6 : tie.Need-returns-6
-returns-6 c = rw (held (c .before .before .before .before .before .before .before .before .before), x-known (c .before .before .before .before .before .before .before), y-known (c .before .before .before .before .before), m-known (c .before .before .before), ← heights-tested (c .before), not-false (c .before .mul-fits .result) (c .if5 .left))
+returns-6 c = rw (held (c .before .before .before .before .before .before .before .before .before), x-known (c .before .before .before .before .before .before .before), y-known (c .before .before .before .before .before), m-known (c .before .before .before), ← height-is (c .before), le-ltb 12 (c .before .mul-height .result) (c .if5 .left))
 
 pub mul-status-spec : {M : Type 1} → statement M
-mul-status-spec = tie.close (tie.spec well-formed-requires returns returns-2 returns-3 returns-4 mul-fits-requires returns-5 returns-6)
+mul-status-spec = tie.close (tie.spec well-formed-requires returns returns-2 returns-3 returns-4 mul-height-requires returns-5 returns-6)

@@ -1,16 +1,17 @@
 -- `log_gather::push_value` meets its contract.
 use mathlib.Core.Path.{_≡_}
 use mathlib.Core.List.{[], _∷_}
-use Prim.Native.Nat.{_+_, _-_, _≤_}
+use mathlib.Core.Logic.{⊎-elim}
+use Prim.Native.Nat.{_+_, _-_, _<_, _≤_}
 use native.Mathlib.Omega.{arith}
-use lib.ListN.{length, getD}
-use borrow.Author.Needs.{needs}
-use Rattle.log_gather.proofs.push_value.Statement.{statement}
-use Rattle.log_gather.proofs.push_value.Tie as tie
+use lib.ListN.{length, getD, set}
 use Rattle.sat.specs.LitArray.{first-lits, lit}
 use Rattle.log_adder.specs.Gather.{push-value}
 use Rattle.log_gather.specs.Arrays.{Pushed}
-use Rattle.log_gather.proofs.Pushing.{pushed-start, pushed-then, push-more}
+use Rattle.log_gather.proofs.Pushing.{pushed-past, pushed-start, pushed-stored, pushed-then, push-more}
+use borrow.Author.Needs.{needs}
+use Rattle.log_gather.proofs.push_value.Statement.{statement}
+use Rattle.log_gather.proofs.push_value.Tie as tie
 
 abbrev Inv-loop : tie.InvT-loop
 Inv-loop counts₀ n o lits out₀ j₀ counts out j = (j ≤ n) × Pushed j out₀ counts₀ (push-value o (first-lits lits j)) out counts
@@ -31,14 +32,42 @@ mul-l c = search needs
 array-copy-out-l : tie.Need-array-copy-out-l Inv-loop μ-loop
 array-copy-out-l c = search needs
 
-add-push-lit : tie.Need-add-push-lit Inv-loop μ-loop
-add-push-lit c = search needs
+add-w : tie.Need-add-w Inv-loop μ-loop
+add-w c = search needs
 
-push-lit-requires : tie.Need-push-lit-requires Inv-loop μ-loop
-push-lit-requires c κs =
+mul-at : tie.Need-mul-at Inv-loop μ-loop
+mul-at c = search needs
+
+element-copy-out-at : tie.Need-element-copy-out-at Inv-loop μ-loop
+element-copy-out-at c = search needs
+
+add-counts : tie.Need-add-counts Inv-loop μ-loop
+add-counts c =
     let s = c .before .before .before .before in
     let l = c .before .before .before .loop in
-    (omega (arith, s .pre .0 .0), s .pre .0 .1 (l .j), l .inv .1 .arrays, λ i. let k = l .inv .1 .few 2147482000 (s .pre .1 .1) i in omega (arith, s .pre .0 .0))
+    let k = l .inv .1 .few 2147482000 (s .pre .1 .1) (s .args .o + l .j) in
+    omega (arith, s .pre .0 .0)
+
+mul-counts : tie.Need-mul-counts Inv-loop μ-loop
+mul-counts c = search needs
+
+element-write-counts : tie.Need-element-write-counts Inv-loop μ-loop
+element-write-counts c = search needs
+
+cast-l : tie.Need-cast-l Inv-loop μ-loop
+cast-l c = search needs
+
+mul-l-2 : tie.Need-mul-l-2 Inv-loop μ-loop
+mul-l-2 c = search needs
+
+mul-l-3 : tie.Need-mul-l-3 Inv-loop μ-loop
+mul-l-3 c = search needs
+
+index-1-l : tie.Need-index-1-l Inv-loop μ-loop
+index-1-l c = search needs
+
+index-2-l : tie.Need-index-2-l Inv-loop μ-loop
+index-2-l c = search needs
 
 add-j : tie.Need-add-j Inv-loop μ-loop
 add-j c = search needs
@@ -50,10 +79,18 @@ loop-again : tie.Need-loop-again Inv-loop μ-loop
 loop-again c =
     let s = c .before .before .before .before .before in
     let l = c .before .before .before .before .loop in
-    let w = c .push-lit in (
+    let w = s .args .o + l .j in
+    let x = getD (s .args .t3) (l .j) (lit 0) in
+    let within : w < 32 = omega (arith, s .pre .0 .0) in
+    let low = s .pre .0 .1 (l .j) in
+    let one : Pushed 1 (l .out) (l .counts) (push-value w (x .0 ∷ [])) (c .if1 .out) (set (l .counts) w (getD (l .counts) w 0 + 1)) =
+    ⊎-elim
+    (λ v. rw (v .1) (pushed-stored (l .out) (l .counts) w x within low (l .inv .1 .arrays) (v .0 .taken)))
+    (λ v. rw (v .1) (pushed-past (l .out) (l .counts) w x within low (l .inv .1 .arrays) (v .0 .left)))
+    (c .if1 .came) in (
       omega arith,
-      pushed-then (push-value (s .args .o) (first-lits (s .args .t3) (l .j + 1))) (push-value (s .args .o) (first-lits (s .args .t3) (l .j))) (push-value (s .args .o + l .j) (getD (s .args .t3) (l .j) (lit 0) .0 ∷ []))
-          (push-more (s .args .o) (s .args .t3) (l .j) (omega (arith, lits-long s, s .pre .0 .0))) (l .inv .1) (w .ensures),
+      pushed-then (push-value (s .args .o) (first-lits (s .args .t3) (l .j + 1))) (push-value (s .args .o) (first-lits (s .args .t3) (l .j))) (push-value w (x .0 ∷ []))
+          (push-more (s .args .o) (s .args .t3) (l .j) (omega (arith, lits-long s, s .pre .0 .0))) (l .inv .1) one,
     )
 
 returns : tie.Need-returns Inv-loop μ-loop
@@ -68,8 +105,17 @@ push-value-spec =
     loop-holds
     mul-l
     array-copy-out-l
-    add-push-lit
-    push-lit-requires
+    add-w
+    mul-at
+    element-copy-out-at
+    add-counts
+    mul-counts
+    element-write-counts
+    cast-l
+    mul-l-2
+    mul-l-3
+    index-1-l
+    index-2-l
     add-j
     loop-less
     loop-again

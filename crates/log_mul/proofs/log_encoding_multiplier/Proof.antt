@@ -1,9 +1,10 @@
 -- `log_mul::log_encoding_multiplier` meets its contract.
-use mathlib.Core.Path.{_≡_, sym, _∙_}
+use mathlib.Core.Path.{_≡_, ap, sym, _∙_}
 use Prim.Native.Nat.{_≤_}
 use lib.ListN.{length, length-map}
 use native.Mathlib.Omega.{arith}
-use Rattle.log_mul.proofs.RowColumns.{multiplier-added, multiplier-tall}
+use Rattle.log_adder.specs.Size.{too-tall}
+use Rattle.log_mul.proofs.RowColumns.{multiplier-added, multiplier-reaches}
 use borrow.Author.Needs.{needs}
 use Rattle.log_mul.proofs.log_encoding_multiplier.Statement.{statement}
 use Rattle.log_mul.proofs.log_encoding_multiplier.Tie as tie
@@ -35,7 +36,7 @@ log-encoding-adder-requires c κs =
     let p = c .before .before .before .before .before .before .before .before .before .before .push-rows .ensures in (
       record { width = omega (arith, w .ensures .1); fewer = w .ensures .2; own = g .arrays .low; results = s .pre .low },
       (
-        multiplier-tall g (s .args .m .len) (w .result) (w .ensures .0) (w .ensures .1) ∙ s .pre .heights,
+        ap too-tall (multiplier-reaches g (s .args .m .len) (w .result) (w .ensures .0) (w .ensures .1)) ∙ s .pre .heights,
         (omega (arith, p .few-vars, s .pre .vars), omega (arith, p .few-lits, s .pre .lits), omega (arith, p .few-clauses, s .pre .clauses)),
       ),
     )

@@ -2,14 +2,15 @@
 use borrow.Author.Needs.{needs}
 use Rattle.log_sum.proofs.sign_adder.Statement.{statement}
 use Rattle.log_sum.proofs.sign_adder.Tie as tie
-use mathlib.Core.Path.{_∙_, refl}
+use mathlib.Core.Path.{_∙_, ap, refl}
 use lib.Dec.{lit<}
 use Prim.Native.Nat.{_<_, _^_}
 use Rattle.sat.specs.declared.Lit.{Lit}
 use Rattle.sat.specs.LitArray.{lit}
+use Rattle.log_adder.specs.Size.{too-tall}
 use Rattle.log_adder.proofs.ColumnTerms.{every-replicate}
 use Rattle.log_terms.specs.Terms.{weighted-all}
-use Rattle.log_sum.proofs.SignSum.{sign-ready, sign-tall, sum-added}
+use Rattle.log_sum.proofs.SignSum.{sign-reaches, sign-ready, sum-added}
 
 gather-sign-requires : tie.Need-gather-sign-requires
 gather-sign-requires c κs = let s = c .before .before .before in (s .pre .0, refl)
@@ -26,7 +27,7 @@ log-encoding-adder-requires c κs =
     let p = s .pre .1 .0 in
     let given = every-replicate (lit 0) (λ (x : Lit). x .0 < 2 ^ 31) 32 (lit< tt) in (
       sign-ready (s .args .sign) all g (s .args .constant) (w .result) (p .0) (w .ensures .0) (w .ensures .1) (s .pre .1 .1) _ given,
-      (sign-tall (s .args .sign) all g (s .args .constant) (w .result) (p .0) (w .ensures .0) (w .ensures .1) ∙ s .pre .1 .1, (p .1, p .2, p .3)),
+      (ap too-tall (sign-reaches (s .args .sign) all g (s .args .constant) (w .result) (p .0) (w .ensures .0) (w .ensures .1)) ∙ s .pre .1 .1, (p .1, p .2, p .3)),
     )
 
 same-length : tie.Need-same-length

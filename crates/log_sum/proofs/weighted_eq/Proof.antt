@@ -7,10 +7,11 @@ use Prim.Native.Nat.{_≤_}
 use native.Mathlib.Omega.{arith}
 use Rattle.sat.specs.Encoded.{EncodedRule}
 use Rattle.clause_set.specs.Stores.{after}
+use Rattle.log_adder.specs.Size.{too-tall}
 use Rattle.log_linear.specs.Added.{add-rule}
 use Rattle.log_terms.proofs.Gathering.{fit-twelve}
 use Rattle.log_terms.specs.Terms.{weighted-all}
-use Rattle.log_sum.proofs.EqSum.{EqParts, eq-added, eq-parts, eq-ready, eq-tall, no-columns-are}
+use Rattle.log_sum.proofs.EqSum.{EqParts, eq-added, eq-parts, eq-reaches, eq-ready, no-columns-are}
 
 -- the columns' x and y
 parts : (c : tie.After-excess2) → EqParts (weighted-all (c .before .before .before .before .before .before .before .before .args .ts) (c .before .before .before .before .before .before .before .before .args .n)) (c .before .before .before .before .before .before .before .before .args .a) (c .before .before .before .before .before .before .before .before .args .b) (c .before .excess .result) (c .excess2 .result)
@@ -64,7 +65,7 @@ log-encoding-adder2-requires c κs =
     let one : 1 ≤ w .result = omega arith in
     let g = c .before .before .before .before .before .before .before .gather .ensures in (
       eq-ready ws g (w .result) (w .ensures .0) (w .ensures .1) (s .args .a) (s .args .b) _ _ p one (s .pre .1 .1) (s .args .vars) (omega (arith, e .before .excess .ensures, q)) (omega (arith, e .excess2 .ensures, c .before .before .before .before .before .eq-target .ensures .1)) (q .2),
-      (eq-tall ws g (w .result) (w .ensures .0) (w .ensures .1) (s .args .a) (s .args .b) _ _ p ∙ s .pre .1 .1, (q .3, q .4)),
+      (ap too-tall (eq-reaches ws g (w .result) (w .ensures .0) (w .ensures .1) (s .args .a) (s .args .b) _ _ p) ∙ s .pre .1 .1, (q .3, q .4)),
     )
 
 same-length-3 : tie.Need-same-length-3

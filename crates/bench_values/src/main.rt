@@ -1,0 +1,114 @@
+// Prints `STATUS HEIGHT` for each call of the script on standard input (crate `script` says how it is written): the number answered, and
+// the greatest height of a column reached, 0 where there is none or the call is refused before 13 is tested. The words are `open`, `range`,
+// `list`, `binary`, `linear`, `mul`, and `stores` with the lengths that both stores have here. Any other line ends the run.
+mod heights;
+
+use encoder_env::EncoderEnv;
+use libc::STDIN_FILENO;
+use libc::STDOUT_FILENO;
+use lines::Line;
+use lines::Word;
+use script::Next;
+
+// The greatest height that the call of a line reaches on this job.
+fn height(word: Word, nums: &[i64], env: EncoderEnv, lits: usize, ends: usize) -> u32 {
+    if lines::is_word(word, b"linear") {
+        let mut terms = [0i32; 4096];
+        let s = script::sum_of(nums, &mut terms);
+        let n = s.count;
+        return heights::sum_height(env, lits, ends, s.op, s.constant, &terms[..n]);
+    }
+    if lines::is_word(word, b"mul") {
+        let p = script::product_of(nums);
+        return heights::product_height(env, lits, ends, p.x, p.y, p.m);
+    }
+    0
+}
+
+// `STATUS HEIGHT`
+fn show(status: u32, height: u32) {
+    io::print_decimal(STDOUT_FILENO, status as u64);
+    io::write_all(STDOUT_FILENO, b" ");
+    io::print_decimal(STDOUT_FILENO, height as u64);
+    io::write_all(STDOUT_FILENO, b"\n");
+}
+
+// Whether these are the lengths that both stores have here.
+fn are_lengths(nums: &[i64]) -> bool {
+    if nums.len() != 2 {
+        return false;
+    }
+    nums[0] == 524288 && nums[1] == 131072
+}
+
+// A line with this word and these integers.
+fn answer(word: Word, nums: &[i64], env: EncoderEnv, lits: &mut [u32], ends: &mut [u32]) -> Next {
+    if lines::is_word(word, b"stores") {
+        return Next {
+            env,
+            good: are_lengths(nums),
+            status: 0,
+            value: 0,
+        };
+    }
+    let most = height(word, nums, env, lits.len(), ends.len());
+    let next = script::call(word, nums, env, lits, ends);
+    if next.good {
+        show(next.status, most);
+    }
+    next
+}
+
+// A line that ends here.
+fn end_line(
+    line: Line,
+    nums: &mut [i64],
+    env: EncoderEnv,
+    lits: &mut [u32],
+    ends: &mut [u32],
+) -> Next {
+    let whole = lines::line_whole(nums, line);
+    let word = whole.word;
+    let numbers = whole.numbers;
+    let n = numbers.count;
+    if n > nums.len() || !numbers.good {
+        return Next {
+            env,
+            good: false,
+            status: 0,
+            value: 0,
+        };
+    }
+    answer(word, &nums[..n], env, lits, ends)
+}
+
+// All lines, from the job of all 0.
+fn run(s: &[u8], nums: &mut [i64], lits: &mut [u32], ends: &mut [u32]) {
+    let mut env = encoder_read::opened(0);
+    let mut at: usize = 0;
+    while at < s.len() {
+        let fed = lines::feed(nums, lines::line_start(), s, at);
+        let to = fed.at;
+        let line = fed.line;
+        let next = end_line(line, nums, env, lits, ends);
+        if !next.good {
+            io::write_all(STDOUT_FILENO, b"bad line\n");
+            return;
+        }
+        if to == s.len() {
+            return;
+        }
+        env = next.env;
+        at = to + 1;
+    }
+}
+
+// The input has at most 65,536 bytes.
+fn main() {
+    let mut input = [0u8; 65536];
+    let mut nums = [0i64; 65537];
+    let mut lits = [0u32; 524288];
+    let mut ends = [0u32; 131072];
+    let n = io::read_full(STDIN_FILENO, &mut input);
+    run(&input[..n], &mut nums, &mut lits, &mut ends);
+}
