@@ -1,7 +1,7 @@
 -- What the code's calls come to: the call of each tag, on its contents.
-use Prim.Native.Nat.{_*_, _-_, _/_, _≤_, ℕ}
+use Prim.Native.Nat.{_*_, _-_, _/_, _<_, _≤_, ℕ}
 use native.Mathlib.Omega.{arith}
-use mathlib.Core.Path.{_≡_, refl, sym}
+use mathlib.Core.Path.{_≡_, refl, subst, sym}
 use mathlib.Core.Bool.{Bool, cond, false, true, true≢false}
 use mathlib.Core.List.{List}
 use lib.Dec.{eqb}
@@ -14,12 +14,13 @@ use Rattle.encoder_env.specs.declared.EncoderEnv.{EncoderEnv}
 use Rattle.encoder_answer.specs.declared.Answer.{Answer}
 use Rattle.encoder_read.specs.Calls.{open-outcome}
 use Rattle.encoder_var.specs.Settings.{setting-outcome}
-use Rattle.encoder_answer.specs.Outcome.{Answers}
+use Rattle.encoder_answer.specs.Outcome.{Answers, Outcome}
 use Rattle.encoder_mul.specs.Products.{mul-outcome}
 use Rattle.encoder_linear.specs.Sums.{linear-outcome}
 use Rattle.job_file.specs.Numbers.{signed-long, signed-word, terms, values, word-at}
 use Rattle.job_file.specs.Fields.{call-of, field, right-length, right-place, switches-in}
 use Rattle.job_file.specs.Run.{called, field-outcome, state}
+use Rattle.job_file.proofs.Many.{many-terms, many-values, terms-length, values-length}
 
 module _ (env : EncoderEnv) (lits ends s : List ℕ) {a : Answer} {l e : List ℕ} where
   pub open-called : Answers (open-outcome (switches-in s) lits ends) a l e → Answers (called (state env lits ends) 1 s) a l e
@@ -45,6 +46,18 @@ module _ (env : EncoderEnv) (lits ends s : List ℕ) {a : Answer} {l e : List �
       → Answers (linear-outcome env lits ends op k ts) a l e → Answers (called (state env lits ends) 5 s) a l e
   unfolding called call-of
   linear-called p q r h = rw (← p, ← q, ← r) h
+
+  -- more than 64 values, or six terms: those called with stand for any
+  pub list-many : (ks : List ℤ) → 64 < length ks → 64 < length s / 2
+      → Answers (setting-outcome env lits ends (list ks)) a l e → Answers (called (state env lits ends) 3 s) a l e
+  list-many ks h g w =
+      list-called refl (subst (λ (o : Outcome). Answers o a l e) (many-values env lits ends ks (values s) h (omega (arith, values-length s))) w)
+
+  pub linear-many : {op : ℕ} {k : ℤ} (ts : List ℤ) → op ≡ getD s 0 0 → k ≡ signed-long s 1 → 12 < length ts → 12 < 2 * ((length s - 5) / 3)
+      → Answers (linear-outcome env lits ends op k ts) a l e → Answers (called (state env lits ends) 5 s) a l e
+  linear-many {op} {k} ts p q h g w =
+      linear-called p q refl
+      (subst (λ (o : Outcome). Answers o a l e) (many-terms env lits ends op k ts (terms (drop 5 s)) h (omega (arith, terms-length (drop 5 s), length-drop 5 s))) w)
 
   pub mul-called : {x y m : ℕ} → x ≡ getD s 0 0 → y ≡ getD s 1 0 → m ≡ getD s 2 0
       → Answers (mul-outcome env lits ends x y m) a l e → Answers (called (state env lits ends) 6 s) a l e

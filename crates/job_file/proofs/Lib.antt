@@ -5,3 +5,4 @@ pub mod Refused
 pub mod Running
 pub mod AcceptedRun
 pub mod Examples
+pub mod Many

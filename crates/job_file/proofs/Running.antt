@@ -3,7 +3,7 @@ use Prim.Native.Nat.{_+_, _-_, _<_, _≤_, suc, zero, ℕ}
 use native.Mathlib.Omega.{arith}
 use mathlib.Core.Path.{_∙_, _≡_, ap, sym}
 use mathlib.Core.List.{List}
-use lib.ListN.{drop, length, length-drop, length-take, take}
+use lib.ListN.{drop, length, take}
 use borrow.Author.Tests.{eq-eqb, le-leb, lt-leb, ne-eqb}
 use Rattle.encoder_env.specs.declared.EncoderEnv.{EncoderEnv}
 use Rattle.encoder_answer.specs.declared.Answer.{Answer}
@@ -16,10 +16,6 @@ use Rattle.job_file.specs.declared.fields.FieldAt.{FieldAt}
 use Rattle.job_file.specs.declared.fields.FieldAt.the-variants.{Broken, Contents, End}
 use Rattle.job_file.proofs.Refused.{field-unchanged}
 use Rattle.job_file.proofs.Places.{Within, at-end, fields-from, first-field}
-
--- contents are within the input
-pub contents-short : (s : List ℕ) (n b : ℕ) {c : List ℕ} {m : ℕ} → c ≡ take n (drop b s) → length s ≤ m → length c ≤ m
-contents-short s n b e h = rw (e, length-take n (drop b s), length-drop b s) (omega arith)
 
 -- from a place on, with enough fields to come
 pub record Going (s : List ℕ) (all : JobRun) (at index : ℕ) (env : EncoderEnv) (lits ends : List ℕ) : Type 0 where

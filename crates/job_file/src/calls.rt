@@ -33,14 +33,17 @@ fn range(s: &[u8], env: EncoderEnv, lits: &mut [u32], ends: &mut [u32]) -> Answe
     encoder::encode_range(env, lits, ends, low, high)
 }
 
-// Tag 03: values.
+// Tag 03: values. More than 64 are refused whatever they are.
 fn list(s: &[u8], env: EncoderEnv, lits: &mut [u32], ends: &mut [u32]) -> Answer
-    requires { ⌜ length (now s) ≤ 8192 ⌝ }
     ensures { λ r. ⌜ Answers (called (state env (now (lits .entry)) (now (ends .entry))) 3 (now (s .entry))) r (now (lits .exit)) (now (ends .exit)) ⌝ }
 {
-    let mut values = [0i32; 4096];
-    numbers::values(s, &mut values);
     let n = s.len() / 2;
+    if 64 < n {
+        let many = [0i32; 65];
+        return encoder::encode_list(env, lits, ends, &many);
+    }
+    let mut values = [0i32; 64];
+    numbers::values(s, &mut values);
     encoder::encode_list(env, lits, ends, &values[..n])
 }
 
@@ -55,16 +58,20 @@ fn binary(s: &[u8], env: EncoderEnv, lits: &mut [u32], ends: &mut [u32]) -> Answ
     encoder::encode_binary(env, lits, ends, Lit(cond), f, t)
 }
 
-// Tag 05: operation, constant, terms.
+// Tag 05: operation, constant, terms. More than six terms are refused whatever they are.
 fn linear(s: &[u8], env: EncoderEnv, lits: &mut [u32], ends: &mut [u32]) -> Answer
-    requires { ⌜ (5 ≤ length (now s)) × (length (now s) ≤ 8192) ⌝ }
+    requires { ⌜ 5 ≤ length (now s) ⌝ }
     ensures { λ r. ⌜ Answers (called (state env (now (lits .entry)) (now (ends .entry))) 5 (now (s .entry))) r (now (lits .exit)) (now (ends .exit)) ⌝ }
 {
     let op = numbers::wide(s[0]);
     let constant = numbers::signed_long(s, 1);
-    let mut terms = [0i32; 5458];
-    numbers::terms(&s[5..], &mut terms);
     let n = 2 * ((s.len() - 5) / 3);
+    if 12 < n {
+        let many = [0i32; 14];
+        return encode_linear(env, lits, ends, op, constant, &many);
+    }
+    let mut terms = [0i32; 12];
+    numbers::terms(&s[5..], &mut terms);
     encode_linear(env, lits, ends, op, constant, &terms[..n])
 }
 
@@ -82,7 +89,6 @@ fn mul(s: &[u8], env: EncoderEnv, lits: &mut [u32], ends: &mut [u32]) -> Answer
 // The call of a tag whose contents are of a right length.
 pub fn call(tag: u8, s: &[u8], env: EncoderEnv, lits: &mut [u32], ends: &mut [u32]) -> Answer
     requires { ⌜ right-length tag (length (now s)) ≡ true ⌝ }
-    requires { ⌜ length (now s) ≤ 8192 ⌝ }
     ensures { λ r. ⌜ Answers (called (state env (now (lits .entry)) (now (ends .entry))) tag (now (s .entry))) r (now (lits .exit)) (now (ends .exit)) ⌝ }
 {
     match tag {

@@ -49,7 +49,6 @@ fn one_field(
     lits: &mut [u32],
     ends: &mut [u32],
 ) -> Answer
-    requires { ⌜ length (now s) ≤ 8192 ⌝ }
     ensures { λ r. ⌜ Answers (field-outcome index (state env (now (lits .entry)) (now (ends .entry))) (field tag (now (s .entry)))) r (now (lits .exit)) (now (ends .exit)) ⌝ }
 {
     if !fields::right_place(index, tag) {

@@ -29,7 +29,7 @@ returns-2 c =
     field-wrong-length (a .env) (a .lits .now) (a .ends .now) (a .s .now) (a .index) (a .tag) (sym (c .before .before .before .before .right-place .ensures) ∙ not-false _ (c .before .before .before .if1 .left)) (sym (c .before .before .right-length .ensures) ∙ not-true _ (c .before .if2 .taken)) (c .not-read2 .ensures)
 
 call-requires : tie.Need-call-requires
-call-requires c κs = (sym (c .before .before .before .right-length .ensures) ∙ not-false _ (c .before .before .if2 .left), c .before .before .before .before .before .before .before .before .before .pre)
+call-requires c κs = sym (c .before .before .before .right-length .ensures) ∙ not-false _ (c .before .before .if2 .left)
 
 same-length : tie.Need-same-length
 same-length c = search needs

@@ -6,7 +6,7 @@ use native.Mathlib.Omega.{arith}
 use Rattle.job_file.specs.Run.{job-run, run-file}
 use Rattle.job_file.specs.declared.JobAnswer.{JobAnswer}
 use Rattle.job_file.proofs.Places.{field-within}
-use Rattle.job_file.proofs.Running.{Going, contents-short, field-accepted, field-broken, field-refused, going-start, none-first, none-later, too-long}
+use Rattle.job_file.proofs.Running.{Going, field-accepted, field-broken, field-refused, going-start, none-first, none-later, too-long}
 use borrow.Author.Needs.{needs}
 use Rattle.job_file.proofs.run.Statement.{statement}
 use Rattle.job_file.proofs.run.Tie as tie
@@ -94,7 +94,7 @@ contents-requires c κs =
     (w .from, w .inside)
 
 one-field-requires : tie.Need-one-field-requires Inv-loop μ-loop
-one-field-requires c κs = let g = c .before .before .before .before .tag .given in contents-short (c .before .before .before .before .before .before .before .before .before .before .before .before .before .args .bytes .now) (g .0 .1 .1 .0 - g .0 .1 .0) (g .0 .1 .0) (c .before .before .contents .ensures) (c .before .before .before .before .before .before .before .loop .inv .4)
+one-field-requires c κs = search needs
 
 answered-requires-5 : tie.Need-answered-requires-5 Inv-loop μ-loop
 answered-requires-5 c κs = search needs

@@ -5,6 +5,7 @@ use mathlib.Core.Path.{_≡_, ap, _∙_}
 use borrow.Author.Needs.{needs}
 use mathlib.Core.Bool.{false, true}
 use Prim.Native.Nat.{max, ℕ}
+use native.Mathlib.Omega.{arith}
 use mir.Syntax.{w32}
 use mir.ValLaws.{toZ-ofZ}
 use Rattle.arithmetic.specs.Integers.{down, up}
@@ -27,7 +28,7 @@ down-requires : tie.Need-down-requires
 down-requires c κs = let s = c .before in rw (toZ-ofZ w32 (s .args .constant) (s .fits .constant)) (s .pre .1 .1)
 
 eq-height-requires : tie.Need-eq-height-requires
-eq-height-requires c κs = let s = c .before .before .before in (s .pre .0, (rw (a-is (c .before .before)) (s .pre .1 .0), rw (b-is (c .before)) (s .pre .1 .1)))
+eq-height-requires c κs = let s = c .before .before .before in (s .pre .0, (omega (arith, a-is (c .before .before), s .pre .1 .0), omega (arith, b-is (c .before), s .pre .1 .1)))
 
 returns : tie.Need-returns
 returns c =
@@ -35,10 +36,10 @@ returns c =
     rw (c .before .if1 .taken, ← (a-is (c .before .before .before)), ← (b-is (c .before .before))) (c .eq-height .ensures)
 
 sign-height-requires : tie.Need-sign-height-requires
-sign-height-requires c κs = let s = c .before .before .before in (s .pre .0, rw (a-is (c .before .before)) (s .pre .1 .0))
+sign-height-requires c κs = let s = c .before .before .before in (s .pre .0, omega (arith, a-is (c .before .before), s .pre .1 .0))
 
 sign-height-requires-2 : tie.Need-sign-height-requires-2
-sign-height-requires-2 c κs = let s = c .before .before .before .before in (s .pre .0, rw (b-is (c .before .before)) (s .pre .1 .1))
+sign-height-requires-2 c κs = let s = c .before .before .before .before in (s .pre .0, omega (arith, b-is (c .before .before), s .pre .1 .1))
 
 higher-requires : tie.Need-higher-requires
 higher-requires c κs = search needs

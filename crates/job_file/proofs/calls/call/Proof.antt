@@ -14,29 +14,29 @@ use Rattle.job_file.proofs.calls.call.Tie as tie
 
 open-requires : tie.Need-open-requires
 unfolding right-length
-open-requires c κs = let a = c .before .before .before .before .before .before .args in eqb-true _ 1 (at-tag (a .tag) 1 (length (a .s .now)) (c .before .before .match .keys1) ∙ c .before .before .before .before .before .before .pre .0)
+open-requires c κs = let a = c .before .before .before .before .before .before .args in eqb-true _ 1 (at-tag (a .tag) 1 (length (a .s .now)) (c .before .before .match .keys1) ∙ c .before .before .before .before .before .before .pre)
 
 range-requires : tie.Need-range-requires
 unfolding right-length
-range-requires c κs = let a = c .before .before .before .before .before .before .args in eqb-true _ 4 (at-tag (a .tag) 2 (length (a .s .now)) (c .before .before .match .keys2) ∙ c .before .before .before .before .before .before .pre .0)
+range-requires c κs = let a = c .before .before .before .before .before .before .args in eqb-true _ 4 (at-tag (a .tag) 2 (length (a .s .now)) (c .before .before .match .keys2) ∙ c .before .before .before .before .before .before .pre)
 
 list-requires : tie.Need-list-requires
-list-requires c κs = c .before .before .before .before .before .before .pre .1
+list-requires c κs = search needs
 
 binary-requires : tie.Need-binary-requires
 unfolding right-length
-binary-requires c κs = let a = c .before .before .before .before .before .before .args in eqb-true _ 6 (at-tag (a .tag) 4 (length (a .s .now)) (c .before .before .match .keys4) ∙ c .before .before .before .before .before .before .pre .0)
+binary-requires c κs = let a = c .before .before .before .before .before .before .args in eqb-true _ 6 (at-tag (a .tag) 4 (length (a .s .now)) (c .before .before .match .keys4) ∙ c .before .before .before .before .before .before .pre)
 
 linear-requires : tie.Need-linear-requires
 unfolding right-length
 linear-requires c κs =
     let a = c .before .before .before .before .before .before .args in
     let n = length (a .s .now) in
-    let h = and-eq-true-iff (leb 5 n) (eqb (n % 3) 2) .0 (at-tag (a .tag) 5 n (c .before .before .match .keys5) ∙ c .before .before .before .before .before .before .pre .0) in
-    (leb-true 5 n (h .0), c .before .before .before .before .before .before .pre .1)
+    let h = and-eq-true-iff (leb 5 n) (eqb (n % 3) 2) .0 (at-tag (a .tag) 5 n (c .before .before .match .keys5) ∙ c .before .before .before .before .before .before .pre) in
+    leb-true 5 n (h .0)
 
 mul-requires : tie.Need-mul-requires
-mul-requires c κs = let r = c .before .before .match .rest in tag-6 _ _ (r .0 .0 .0 .0 .1) (r .0 .0 .0 .1) (r .0 .0 .1) (r .0 .1) (r .1) (c .before .before .before .before .before .before .pre .0) .1
+mul-requires c κs = let r = c .before .before .match .rest in tag-6 _ _ (r .0 .0 .0 .0 .1) (r .0 .0 .0 .1) (r .0 .0 .1) (r .0 .1) (r .1) (c .before .before .before .before .before .before .pre) .1
 
 same-length : tie.Need-same-length
 same-length c = search needs
@@ -93,7 +93,7 @@ returns-6 : tie.Need-returns-6
 returns-6 c =
     let a = c .before .before .before .before .before .before .before .before .before .before .before .args in
     let r = c .before .before .before .before .before .before .before .match .rest in
-    let e = tag-6 _ _ (r .0 .0 .0 .0 .1) (r .0 .0 .0 .1) (r .0 .0 .1) (r .0 .1) (r .1) (c .before .before .before .before .before .before .before .before .before .before .before .pre .0) in
+    let e = tag-6 _ _ (r .0 .0 .0 .0 .1) (r .0 .0 .0 .1) (r .0 .0 .1) (r .0 .1) (r .1) (c .before .before .before .before .before .before .before .before .before .before .before .pre) in
     tag-called (a .env) (a .lits .now) (a .ends .now) (a .s .now) (a .tag) 6 (e .0) (c .before .before .before .before .mul .ensures)
 
 pub call-spec : {M : Type 1} → statement M
