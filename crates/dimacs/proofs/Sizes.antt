@@ -1,6 +1,6 @@
--- How many bytes a print takes (`print-size`), and that 65,551 hold every print over the program's stores (`print-fits`, `print-whole`).
+-- How many bytes a print takes (`print-size`), and that 65,551 hold every print over the program's stores (`print-fits`).
 use Prim.Native.Nat.{_*_, _+_, _<_, _^_, _≤_, suc, zero, ℕ}
-use lib.ListN.{length, length-append, take}
+use lib.ListN.{length, length-append}
 use mathlib.Core.Bool.{Bool, cond, false, true}
 use mathlib.Core.List.{List, [], _∷_}
 use mathlib.Core.Path.{_≡_, ap, refl}
@@ -11,9 +11,7 @@ use Rattle.sat.specs.Lit.{is-negated}
 use Rattle.sat.specs.Size.{entries}
 use Rattle.clause_set.specs.Stores.{clauses-from, clauses-of, stores}
 use Rattle.encoder_env.specs.declared.EncoderEnv.{EncoderEnv}
-use Rattle.text.specs.Bytes.{text, write}
 use Rattle.text.specs.Decimal.{decimal}
-use Rattle.text.proofs.Laws.{fits-from-start}
 use Rattle.text.proofs.Numerals.{decimal-length}
 use Rattle.dimacs.specs.Dimacs.{clause, clauses, dimacs, header, highest-in, highest-variable, line, literal, number, print-of, refused}
 
@@ -82,8 +80,3 @@ module _ (env : EncoderEnv) (lits ends : List ℕ) where
     module _ (lits-fit : entries written ≤ 8192) (ends-fit : env .clauses ≤ 4095) where
       pub print-fits : length (print-of env lits ends) ≤ 65551
       print-fits = omega (arith, print-size (omega arith))
-
-      -- `put_dimacs` into a slice of that length writes the print whole, from its start
-      pub print-whole : (before after : List ℕ) (r : ℕ) → 65551 ≤ length before → text after r ≡ write (text before 0) (print-of env lits ends)
-          → (r ≡ length (print-of env lits ends)) × (take r after ≡ print-of env lits ends)
-      print-whole before after r long w = fits-from-start (print-of env lits ends) before after r (omega (arith, print-fits)) w
