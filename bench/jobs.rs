@@ -112,10 +112,6 @@ fn workload(name: &str, calls: &[Call], lits: &mut [u32], ends: &mut [u32]) {
     );
 }
 
-fn ranges(count: usize, low: i32, high: i32) -> Vec<Call> {
-    (0..count).map(|_| Call::Range(low, high)).collect()
-}
-
 /// 32 ranges, and sums of two and three terms over them.
 fn small_sums() -> Vec<Call> {
     let mut calls = (0..32).map(|i| Call::Range(-(i % 3) * 5, 9 + 11 * i)).collect::<Vec<_>>();
@@ -130,12 +126,12 @@ fn small_sums() -> Vec<Call> {
     calls
 }
 
-/// Six settings with a coefficient of 1 each: their columns reach 11 or 12.
-fn tall_sums(op: i32, high: i32) -> Vec<Call> {
-    let mut calls = ranges(12, 0, high);
+/// Four sums of settings of 7 bits with these coefficients.
+fn tall_sums(op: i32, constant: i32, coefs: &[i32]) -> Vec<Call> {
+    let mut calls = (0..12).map(|_| Call::Range(0, 127)).collect::<Vec<_>>();
     for first in 0..4 {
-        let terms = (0..6).flat_map(|i| [first + i, 1]).collect();
-        calls.push(Call::Linear(op, if op == 0 { -200 } else { 0 }, terms));
+        let terms = coefs.iter().enumerate().flat_map(|(i, &coef)| [first + i as i32, coef]);
+        calls.push(Call::Linear(op, constant, terms.collect()));
     }
     calls
 }
@@ -164,11 +160,14 @@ pub fn run() {
     println!("|---|---|---|---|---|---|---|");
     for (name, calls) in [
         ("32 ranges, 420 sums of 2 or 3 terms", small_sums()),
-        ("Eq of six settings of 7 bits, height 11", tall_sums(0, 127)),
-        ("Ne of six settings of 7 bits", tall_sums(1, 127)),
-        ("Ge of six settings of 7 bits", tall_sums(2, 127)),
+        ("Eq, height 11", tall_sums(0, -200, &[1; 6])),
+        ("Eq, height 12", tall_sums(0, 0, &[2, 2, 3, -1, -3])),
+        ("Ne, height 11", tall_sums(1, 0, &[1; 6])),
+        ("Ne, height 12", tall_sums(1, 1_023, &[1; 6])),
+        ("Ge, height 11", tall_sums(2, 0, &[1; 6])),
+        ("Ge, height 12", tall_sums(2, 1_023, &[1; 6])),
         ("products of 7 by 7 bits, height 12", products(0)),
-        ("products of 7 by 7 bits with offsets", products(-50)),
+        ("products of 7 by 7 bits with offsets, height 12", products(-50)),
         ("lists of 4 values, 4,000 codes missing", lists()),
     ] {
         workload(name, &calls, &mut lits, &mut ends);
