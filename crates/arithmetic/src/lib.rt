@@ -1,6 +1,6 @@
 // Signed numbers at the border of the encoder: a setting's offset, codes and values, and bit lengths. Inside, numbers are unsigned.
 ghost use mathlib.Core.Path.{_≡_};
-ghost use Prim.Native.Nat.{_<_, _≤_};
+ghost use Prim.Native.Nat.{_<_};
 ghost use lib.Signed.{_≤ℤ_};
 ghost use Rattle.arithmetic.specs.Bits.{bit-length};
 ghost use Rattle.arithmetic.specs.Integers.{up, down};

@@ -2,7 +2,7 @@
 // it and stores only what lies inside a store, so that a call that is lent nothing only counts.
 ghost use mathlib.Core.Path.{_≡_};
 ghost use mathlib.Core.List.{[], _∷_, _++_};
-ghost use Prim.Native.Nat.{_+_, _-_, _^_, _≤_, _<_};
+ghost use Prim.Native.Nat.{_+_, _≤_, _<_};
 ghost use lib.ListN.{getD, length, set};
 ghost use Rattle.clause_set.specs.Bytes.{clause-holds, lit-holds};
 ghost use Rattle.clause_set.specs.Clause.{clause-lits};
@@ -42,9 +42,7 @@ impl Clause {
             len: at + 1,
         }
     }
-}
 
-impl Clause {
     pub fn one(a: Lit) -> Clause
         ensures { λ r. ⌜ (r .len ≡ 1) × (clause-lits r ≡ a .0 ∷ []) ⌝ }
     {

@@ -7,7 +7,7 @@ fn main() {
     let mut input = [0u8; 8193];
     let mut lits = [0u32; 8192];
     let mut ends = [0u32; 4096];
-    // no print over these stores is longer (`print-fits` of crate job_print)
+    // no print over these stores is longer (`print-fits`, crate dimacs)
     let mut out = [0u8; 65551];
     let n = io::read_full(STDIN_FILENO, &mut input);
     let size = job_print::print_file(&input[..n], &mut lits, &mut ends, &mut out);

@@ -1,8 +1,6 @@
 // The job, after `EncoderEnv` of encoder/mod.rs, and whether it is well formed.
 ghost use mathlib.Core.Path.{_≡_};
-ghost use mathlib.Core.Bool.{_&&_};
 ghost use Prim.Native.Nat.{_≤_};
-ghost use lib.Signed.{_≤ℤ_};
 ghost use Rattle.encoder_env.specs.WellFormed.{all-below, bounds-hold, encoding-holds, in-range, is-spare, lits-fit, record-holds, stores-within, well-formed};
 use arithmetic::bit_length;
 use arithmetic::code;

@@ -9,8 +9,6 @@ use encoder_read::opened;
 use fields::FieldAt;
 ghost use mathlib.Core.Path.{_≡_};
 ghost use lib.IntN.{pos};
-ghost use lib.ListN.{length};
-ghost use Prim.Native.Nat.{_≤_};
 ghost use Rattle.encoder_answer.specs.Outcome.{Answers};
 ghost use Rattle.job_file.specs.Fields.{field};
 ghost use Rattle.job_file.specs.Run.{field-outcome, job-run, run-file, state};

@@ -8,17 +8,14 @@ use native.Mathlib.Omega.{arith}
 use lib.Dec.{ltb}
 use lib.ListN.{length, take, drop, getD, replicate}
 use Rattle.sat.specs.declared.Lit.{Lit}
-use Rattle.clause_set.specs.declared.Counts.{Counts}
-use Rattle.log_adder.specs.declared.AdderInput.{AdderInput}
 use Rattle.log_adder.specs.declared.ColumnInput.{ColumnInput}
 use Rattle.log_adder.specs.declared.AdderState.{AdderState}
 use Rattle.clause_set.specs.Stores.{after}
-use Rattle.clause_set.proofs.Adding.{count-after, used-after}
 use Rattle.sat.specs.Encoded.{EncodedBits}
 use Rattle.log_adder.specs.Adder.{adder, extend, tail}
 use Rattle.log_adder.specs.ColumnInfo.{range-lits}
 use Rattle.sat.specs.LitArray.{lit, num}
-use Rattle.log_adder.specs.AdderState.{AdderAdded, AdderCounted, ColumnAdded, InBounds, Outcome, adder-output, carry-count, input-columns, outcome, state-bits, then}
+use Rattle.log_adder.specs.AdderState.{ColumnAdded, InBounds, carry-count, input-columns, outcome, state-bits, then}
 use Rattle.log_adder.proofs.ColumnsLeft.{add-column-then, adder-end, adder-step, extend-end, extend-step, given-result, given-tail, given-vars, then-no-more}
 use Rattle.log_adder.proofs.Heights.{column-fits, fits-step, tall-from}
 
@@ -147,17 +144,3 @@ module _ {d₀ e₀ : List ℕ} {s₀ : AdderState} {d e : List ℕ} {s : AdderS
 pub no-length : (l : List ℕ) → length l ≡ 0 → l ≡ []
 no-length [] e = refl
 no-length (x ∷ xs) e = absurd (omega arith)
-
--- lent nothing, the adder counts
-pub counted : {d e : List ℕ} (cols : List (List Lit)) (counts : List ℕ) (given : List Lit) (p : AdderInput) (v : ℕ) (a : Counts) {d′ e′ : List ℕ} (r : AdderState)
-    → AdderAdded d e cols counts given p v a d′ e′ r → AdderCounted cols counts given p v a r
-counted {d} {e} cols counts given p v a r w =
-    let cs : List (List ℕ) = adder-output cols counts given p v .clauses in
-    record {
-      lits = ap (λ (x : Outcome). x .stores .used) (w .done) ∙ used-after 0 cs (after d e a);
-      clauses = ap (λ (x : Outcome). x .stores .count) (w .done) ∙ count-after 0 cs (after d e a);
-      bits = ap (λ (x : Outcome). x .bits) (w .done);
-      vars = ap (λ (x : Outcome). x .vars) (w .done);
-      steady = w .steady;
-      len = w .len;
-    }

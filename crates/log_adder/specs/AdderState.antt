@@ -4,7 +4,6 @@ use mathlib.Core.Path.{_≡_}
 use mathlib.Core.Bool.{Bool, cond}
 use mathlib.Core.List.{List, [], _∷_, _++_}
 use lib.ListN.{getD, length}
-use Rattle.sat.specs.Size.{entries}
 use Rattle.sat.specs.declared.Lit.{Lit}
 use Rattle.clause_set.specs.declared.Counts.{Counts}
 use Rattle.log_adder.specs.declared.VarRange.{VarRange}
@@ -132,14 +131,5 @@ adder-output cols counts given p v = adder (input-all cols counts p) [] (given-l
 -- what the adder leaves
 pub record AdderAdded (d e : List ℕ) (cols : List (List Lit)) (counts : List ℕ) (given : List Lit) (p : AdderInput) (v : ℕ) (a : Counts) (d′ e′ : List ℕ) (r : AdderState) : Type 0 where
   pub done : outcome d′ e′ r ≡ then (after d e a) [] (adder-output cols counts given p v)
-  pub steady : InBounds r
-  pub len : r .len ≤ 32
-
--- what counting finds: the sizes of the clauses, the bits and the variables
-pub record AdderCounted (cols : List (List Lit)) (counts : List ℕ) (given : List Lit) (p : AdderInput) (v : ℕ) (a : Counts) (r : AdderState) : Type 0 where
-  pub lits : r .used .lits ≡ a .lits + entries (adder-output cols counts given p v .clauses)
-  pub clauses : r .used .clauses ≡ a .clauses + length (adder-output cols counts given p v .clauses)
-  pub bits : state-bits r ≡ adder-output cols counts given p v .bits
-  pub vars : r .vars ≡ adder-output cols counts given p v .vars
   pub steady : InBounds r
   pub len : r .len ≤ 32

@@ -1,12 +1,11 @@
 // Columns and the adder of Ne, Ge and products, after `log_encoding_adder` of log.rs. A call that is lent no entries only counts.
 ghost use mathlib.Core.Path.{_≡_};
-ghost use mathlib.Core.List.{[], _∷_, _++_, map};
-ghost use Prim.Native.Nat.{max, _+_, _-_, _*_, _^_, _≤_, _<_};
-ghost use lib.ListN.{length, take};
+ghost use Prim.Native.Nat.{max, _+_, _*_, _^_, _≤_, _<_};
+ghost use lib.ListN.{take};
 ghost use mathlib.Core.Bool.{false};
 ghost use Rattle.clause_set.specs.Stores.{add-clauses, after, stores};
 ghost use Rattle.mixed.specs.Infos.{AllSmall};
-ghost use Rattle.log_adder.specs.AdderState.{AdderAdded, AdderCounted, AdderFits, ColumnAdded, ColumnReady, ColumnsAdded, CountsLow, Extended, InBounds, result-count, result-lit};
+ghost use Rattle.log_adder.specs.AdderState.{AdderAdded, AdderFits, ColumnAdded, ColumnReady, ColumnsAdded, CountsLow, Extended, InBounds, result-count, result-lit};
 ghost use Rattle.log_adder.specs.ColumnInfo.{ColumnSized, column-clauses, column-infos, lit-info, range-info};
 ghost use Rattle.log_adder.specs.Size.{greatest-height, input-shapes, reached, too-tall};
 use clause_set::Counts;
@@ -326,32 +325,4 @@ pub fn log_encoding_adder(
     };
     let s = add_columns(lits, ends, cols, counts, given, p, start);
     extend_carry(lits, ends, s)
-}
-
-// The same counted: nothing is lent, so nothing is written.
-pub fn count_adder(
-    lits: &mut [u32],
-    ends: &mut [u32],
-    cols: [[Lit; 12]; 32],
-    counts: [u32; 32],
-    given: [Lit; 32],
-    p: AdderInput,
-    vars: u32,
-    at: Counts,
-) -> AdderState
-    requires { ⌜ AdderFits cols counts given p ⌝ }
-    requires { ⌜ too-tall (reached (input-shapes (p .width) 0 counts (p .constant)) 0) ≡ false ⌝ }
-    requires { ⌜ (vars ≤ 1048576) × (at .lits ≤ 1073741824) × (at .clauses ≤ 1073741824) ⌝ }
-    ensures { λ r. ⌜ (now (lits .exit) ≡ now (lits .entry)) × (now (ends .exit) ≡ now (ends .entry)) × AdderCounted cols counts given p vars at r ⌝ }
-{
-    log_encoding_adder(
-        &mut lits[..0],
-        &mut ends[..0],
-        cols,
-        counts,
-        given,
-        p,
-        vars,
-        at,
-    )
 }

@@ -15,18 +15,17 @@ use Rattle.clause_set.specs.declared.Counts.{Counts}
 use Rattle.log_adder.specs.declared.VarRange.{VarRange}
 use Rattle.log_adder2.specs.declared.EqInput.{EqInput}
 use Rattle.log_adder2.specs.declared.EqState.{EqState}
-use Rattle.log_adder2.specs.declared.EqCounts.{EqCounts}
 use Rattle.log_adder2.specs.declared.Column.{Column}
 use Rattle.log_adder2.specs.declared.Column.the-variants.{Carry, Dead}
 use Rattle.sat.specs.declared.Var.{Var}
 use Rattle.sat.specs.Clause.{Clauses}
-use Rattle.clause_set.specs.Stores.{Stores, add-clauses, after}
-use Rattle.clause_set.proofs.Adding.{add-append, count-after, used-after}
+use Rattle.clause_set.specs.Stores.{add-clauses, after}
+use Rattle.clause_set.proofs.Adding.{add-append}
 use Rattle.sat.specs.Fresh.{fresh}
 use Rattle.log_adder.specs.ColumnInfo.{range-lits}
-use Rattle.log_adder.specs.Adder2.{Adder2Output, NewCarry, adder2-clauses, eq-column, ordering, returned-set}
+use Rattle.log_adder.specs.Adder2.{Adder2Output, NewCarry, eq-column, ordering, returned-set}
 use Rattle.log_adder.specs.AdderState.{own-at}
-use Rattle.log_adder2.specs.EqState.{Carries, EqAdded, EqCounted, EqFits, EqInBounds, Wrote, carries, carries-from, carries-then, carry-of, columns-clauses, eq-carry-count, eq-output, is-dead, next-state, no-vars, target-bit}
+use Rattle.log_adder2.specs.EqState.{Carries, EqFits, EqInBounds, Wrote, carries, carries-from, carries-then, carry-of, columns-clauses, eq-carry-count, eq-output, is-dead, next-state, no-vars, target-bit}
 use Rattle.log_adder2.proofs.EqHeights.{column-fits, fits-step, tall-from}
 use Rattle.log_adder2.proofs.OrderingPass.{start-state}
 use Rattle.log_adder2.proofs.Passes.{carries-dead, carries-step, carry-in, passes-are}
@@ -157,16 +156,3 @@ module _ (cols : List (List Lit)) (counts : List ℕ) (g : EqInput) (fit : EqFit
     ap is-dead (sym k) ∙ ap (λ (q : Column). is-dead (carry-of q)) e,
     sym (returned ∙ ap (λ (q : Column). returned-set (cond (is-dead (carry-of q)) none (some columns·))) e),
   )
-
--- Counting -----------------------------------------------------------------------------------------------------------
-
--- lent nothing, the adder counts
-pub eq-counted : {d e : List ℕ} (cols : List (List Lit)) (counts : List ℕ) (g : EqInput) (a : Counts) {d′ e′ : List ℕ} (r : EqCounts)
-    → EqAdded d e cols counts g a d′ e′ r → EqCounted cols counts g a r
-eq-counted {d} {e} cols counts g a r w =
-    let cs : Clauses = adder2-clauses (eq-output cols counts g) in
-    record {
-      lits = ap (λ (x : Stores). x .used) (w .stores) ∙ used-after 0 cs (after d e a);
-      clauses = ap (λ (x : Stores). x .count) (w .stores) ∙ count-after 0 cs (after d e a);
-      vars = w .vars;
-    }

@@ -5,7 +5,6 @@ use mathlib.Core.Bool.{Bool, true, false}
 use mathlib.Core.List.{List, [], _∷_, _++_}
 use mathlib.Core.Option.{Option, none, some}
 use lib.ListN.{getD, length}
-use Rattle.sat.specs.Size.{entries}
 use Rattle.sat.specs.declared.Lit.{Lit}
 use Rattle.clause_set.specs.declared.Counts.{Counts}
 use Rattle.log_adder.specs.declared.VarRange.{VarRange}
@@ -132,12 +131,6 @@ pub record CarriesOrdered (d e counts : List ℕ) (g : EqInput) (a : Counts) (d�
 -- the whole: all the clauses of the definition, in its order, and its variables
 pub record EqAdded (d e : List ℕ) (cols : List (List Lit)) (counts : List ℕ) (g : EqInput) (a : Counts) (d′ e′ : List ℕ) (r : EqCounts) : Type 0 where
   pub stores : after d′ e′ (r .used) ≡ add-clauses 0 (adder2-clauses (eq-output cols counts g)) (after d e a)
-  pub vars : r .vars ≡ eq-output cols counts g .vars
-
--- what counting finds: the sizes of the clauses, the variables
-pub record EqCounted (cols : List (List Lit)) (counts : List ℕ) (g : EqInput) (a : Counts) (r : EqCounts) : Type 0 where
-  pub lits : r .used .lits ≡ a .lits + entries (adder2-clauses (eq-output cols counts g))
-  pub clauses : r .used .clauses ≡ a .clauses + length (adder2-clauses (eq-output cols counts g))
   pub vars : r .vars ≡ eq-output cols counts g .vars
 
 -- The second pass ----------------------------------------------------------------------------------------------------

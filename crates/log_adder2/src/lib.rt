@@ -1,6 +1,6 @@
 // The adder of Eq, after `log_encoding_adder2` of log.rs. A call that is lent no entries only counts.
 ghost use mathlib.Core.Path.{_≡_};
-ghost use mathlib.Core.Bool.{false, not};
+ghost use mathlib.Core.Bool.{false};
 ghost use mathlib.Core.List.{[]};
 ghost use lib.ListN.{take};
 ghost use Prim.Native.Nat.{_+_, _-_, _*_, _/_, _^_, _≤_, _<_};
@@ -11,7 +11,7 @@ ghost use Rattle.log_adder.specs.AdderState.{CountsLow};
 ghost use Rattle.log_adder.specs.Adder2.{column-answer, eq-column, ordering, returned-set};
 ghost use Rattle.log_adder.specs.ColumnInfo.{ColumnSized, range-lits};
 ghost use Rattle.log_adder.specs.Size.{eq-reached, greatest-height, too-tall};
-ghost use Rattle.log_adder2.specs.EqState.{CarriesOrdered, EqAdded, EqColumnReady, EqCounted, EqFits, Wrote, carries, carry-of, columns-clauses, eq-carry-count, eq-column-clauses, eq-output, is-dead, next-state, no-vars, target-bit};
+ghost use Rattle.log_adder2.specs.EqState.{CarriesOrdered, EqAdded, EqColumnReady, EqFits, Wrote, carries, carry-of, columns-clauses, eq-carry-count, eq-column-clauses, eq-output, is-dead, next-state, no-vars, target-bit};
 ghost use Rattle.log_adder2.specs.declared.Column.the-variants.{Carry};
 use clause_set::Clause;
 use clause_set::Counts;
@@ -399,21 +399,4 @@ pub fn log_encoding_adder2(
     let carry = s.carry;
     let used = push_returned_set(lits, ends, cols, counts, g, carry, s.used);
     EqCounts { vars: s.vars, used }
-}
-
-// The same counted: nothing is lent, so nothing is written.
-pub fn count_adder2(
-    lits: &mut [u32],
-    ends: &mut [u32],
-    cols: [[Lit; 12]; 32],
-    counts: [u32; 32],
-    g: EqInput,
-    at: Counts,
-) -> EqCounts
-    requires { ⌜ EqFits cols counts g ⌝ }
-    requires { ⌜ too-tall (eq-reached (take (g .width) counts) (g .x) (g .y) 0) ≡ false ⌝ }
-    requires { ⌜ (at .lits ≤ 1073741824) × (at .clauses ≤ 1073741824) ⌝ }
-    ensures { λ r. ⌜ (now (lits .exit) ≡ now (lits .entry)) × (now (ends .exit) ≡ now (ends .entry)) × EqCounted cols counts g at r ⌝ }
-{
-    log_encoding_adder2(&mut lits[..0], &mut ends[..0], cols, counts, g, at)
 }

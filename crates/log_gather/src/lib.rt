@@ -1,7 +1,7 @@
 // Literals gathered into columns by weight. Counts run past 12 without storing: only a column that is reached is refused.
 ghost use mathlib.Core.Path.{_≡_};
 ghost use mathlib.Core.Bool.{cond};
-ghost use mathlib.Core.List.{[], _∷_, map};
+ghost use mathlib.Core.List.{[], map};
 ghost use lib.Dec.{eqb};
 ghost use lib.ListN.{replicate};
 ghost use Prim.Native.Nat.{max, _+_, _%_, _^_, _≤_, _<_};

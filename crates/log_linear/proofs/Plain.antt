@@ -11,16 +11,15 @@ use Rattle.arithmetic.specs.Bits.{shl}
 use Rattle.arithmetic.specs.Integers.{down, up}
 use Rattle.sat.specs.Clause.{Assignment, bit, holds}
 use Rattle.sat.specs.Count.{count}
-use Rattle.sat.specs.Encodes.{Any, Encodes}
 use Rattle.sat.specs.Lit.{neg}
 use Rattle.sat.specs.Number.{code-of}
 use Rattle.log_adder.specs.Adder2.{eq-adder}
 use Rattle.log_adder.specs.Gather.{Grid, grid-value, push-scaled, push-value}
 use Rattle.log_adder.specs.PlainAdder2.{Signed, SignedColumns}
 use Rattle.log_adder.proofs.Plain.{minuses, plain-eq-adder-is, positive-lit, weights}
-use Rattle.log_linear.specs.Linear.{Weighted, gather, linear-eq, negated-constant, push-scaled-some, signed-sum}
+use Rattle.log_linear.specs.Linear.{Weighted, gather, linear-eq, negated-constant, push-scaled-some}
 use Rattle.log_linear.specs.PlainLinear.{gather-signed, plain-linear-eq, push-lit, push-lits, push-scaled-lits, sign}
-use Rattle.log_linear.proofs.Linear.{WeightedBelow, linear-eq-encodes, push-scaled-some-value}
+use Rattle.log_linear.proofs.Linear.{WeightedBelow, push-scaled-some-value}
 
 -- Signed literals by numbers, in the columns of specs/Gather ---------------------------------------------------------
 
@@ -163,9 +162,3 @@ plain-linear-eq-is ps k v b =
 pub small : (v : ℕ) (ps : List Weighted) → WeightedBelow v ps → Small ps
 small v [] b = tt
 small v (p ∷ ps) b = (b .0 .1, small v ps (b .1))
-
--- positive parts less negative parts, and the constant: 0
-pub plain-linear-eq-encodes : (ps : List Weighted) (k : ℤ) (v : ℕ) → WeightedBelow v ps
-    → (let out = plain-linear-eq ps k v in
-    Encodes v (out .vars) Any (λ α. signed-sum false α ps + up k ≡ signed-sum true α ps + down k) (out .sent ++ out .returned))
-plain-linear-eq-encodes ps k v b = rw (plain-linear-eq-is ps k v (small v ps b)) (linear-eq-encodes ps (up k) (down k) v b)

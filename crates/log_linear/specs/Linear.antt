@@ -47,11 +47,19 @@ compare test pos neg-from =
     let last = test (pos .bits) (neg .bits) (neg .vars) in
     record { clauses = (pos .clauses ++ neg .clauses) ++ last .clauses; vars = last .vars }
 
+-- Ne's comparison, or Ge's
+abbrev pub comparison : Bool → List ℕ → List ℕ → ℕ → EncodedRule
+comparison true = λ p n v. ne-bits p n [] v
+comparison false = ge-bits
+
+abbrev pub linear-compared : Bool → List Weighted → ℕ → ℕ → ℕ → EncodedRule
+linear-compared is-ne ps a b v = compare (comparison is-ne) (sign-adder false ps a v) (λ w. sign-adder true ps b w)
+
 abbrev pub linear-ge : List Weighted → ℕ → ℕ → ℕ → EncodedRule
-linear-ge ps a b v = compare ge-bits (sign-adder false ps a v) (λ w. sign-adder true ps b w)
+linear-ge = linear-compared false
 
 abbrev pub linear-ne : List Weighted → ℕ → ℕ → ℕ → EncodedRule
-linear-ne ps a b v = compare (λ p n w. ne-bits p n [] w) (sign-adder false ps a v) (λ w. sign-adder true ps b w)
+linear-ne = linear-compared true
 
 -- Eq: a term that counts negative, by its negated literals
 abbrev pub positive-lits : Weighted → List ℕ

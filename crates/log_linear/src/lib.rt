@@ -7,7 +7,7 @@ ghost use Rattle.clause_set.specs.Clause.{clause-lits};
 ghost use Rattle.clause_set.specs.Stores.{after};
 ghost use Rattle.log_linear.specs.Added.{Added, add-rule, bits-of, rule-outcome};
 ghost use Rattle.log_linear.specs.Compare.{first-gate, ne-bits, none-of, sub-gate, xor-gate};
-ghost use Rattle.log_linear.specs.Linear.{ge-bits};
+ghost use Rattle.log_linear.specs.Linear.{comparison, ge-bits};
 ghost use Rattle.log_linear.specs.SubLit.{ge-end, ge-gate, sub-clauses, sub-lits, sub-of};
 use clause_set::Clause;
 use clause_set::Counts;
@@ -197,7 +197,7 @@ fn with_rest(c: Clause, b: Bits, from: usize) -> Clause
 }
 
 // Ne: some bit of the two sums differs.
-pub fn push_ne(
+fn push_ne(
     lits: &mut [u32],
     ends: &mut [u32],
     p: Bits,
@@ -291,7 +291,7 @@ fn ge_end(
 }
 
 // Ge: the bits of the first sum make no less than those of the second.
-pub fn push_ge(
+fn push_ge(
     lits: &mut [u32],
     ends: &mut [u32],
     p: Bits,
@@ -321,4 +321,23 @@ pub fn push_ge(
         vars: v,
         used: ge_end(lits, ends, sub, p, n, common, used),
     }
+}
+
+// Ne, or Ge.
+pub fn push_comparison(
+    lits: &mut [u32],
+    ends: &mut [u32],
+    is_ne: bool,
+    p: Bits,
+    n: Bits,
+    vars: u32,
+    at: Counts,
+) -> RuleCounts
+    requires { ⌜ (p .len ≤ 32) × (n .len ≤ 32) × (vars ≤ 2 ^ 29) × (at .lits ≤ 2 ^ 30) × (at .clauses ≤ 2 ^ 30) ⌝ }
+    ensures { λ r. ⌜ rule-outcome (now (lits .exit)) (now (ends .exit)) r ≡ add-rule (comparison «is_ne» (bits-of p) (bits-of n) vars) (after (now (lits .entry)) (now (ends .entry)) at) ⌝ }
+{
+    if is_ne {
+        return push_ne(lits, ends, p, n, vars, at);
+    }
+    push_ge(lits, ends, p, n, vars, at)
 }

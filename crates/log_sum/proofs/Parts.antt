@@ -4,17 +4,18 @@ use mathlib.Core.Bool.{false, true, true≢false}
 use mathlib.Core.List.{List, _++_}
 use Prim.Native.Nat.{ℕ, zero, suc, _<_, max}
 use native.Mathlib.Omega.{arith}
-use borrow.Author.Tests.{ltb-true}
+use borrow.Author.Tests.{ltb-true, ne-eqb}
+use lib.Dec.{eqb}
 use lib.IntN.{negsuc, pos, ℤ}
 use lib.Signed.{_≤ℤ_, ltZ}
 use Rattle.arithmetic.specs.Integers.{down, up}
 use Rattle.arithmetic.specs.Offset.{code}
 use Rattle.arithmetic.proofs.Integers.{order-read}
 use Rattle.arithmetic.proofs.Offset.{code-read}
-use Rattle.norm_csp.specs.Rules.{ge, op-of}
+use Rattle.norm_csp.specs.Rules.{op-of}
 use Rattle.log_adder.specs.Size.{greatest-height}
 use Rattle.log_linear.specs.EncodeLinearLog.{encode-weighted, eq-rule}
-use Rattle.log_linear.specs.Linear.{Weighted, linear-eq, linear-ge, linear-ne}
+use Rattle.log_linear.specs.Linear.{Weighted, linear-compared, linear-eq}
 use Rattle.log_linear.specs.Size.{WeightedShape, linear-reached, sign-reached}
 use Rattle.log_sum.proofs.Compared.{height-append}
 
@@ -34,11 +35,6 @@ down-code z e = let r = negative-read z e in omega (arith, code-read z (pos 0) (
 
 -- Operations ----------------------------------------------------------------------------------------------------------
 
-pub op-ge : (n : ℕ) → (n ≡ 0 → ⊥) → (n ≡ 1 → ⊥) → op-of n ≡ ge
-op-ge zero p q = absurd (p refl)
-op-ge (suc zero) p q = absurd (q refl)
-op-ge (suc (suc n)) p q = refl
-
 -- Ne and Ge reach the columns of both parts
 pub reached-parts : (n : ℕ) → (n ≡ 0 → ⊥) → (ps : List WeightedShape) (a b : ℕ) → linear-reached (op-of n) ps a b ≡ sign-reached false ps a ++ sign-reached true ps b
 reached-parts zero p ps a b = absurd (p refl)
@@ -55,8 +51,10 @@ module _ (n : ℕ) where
   pub encode-eq : n ≡ 0 → (ws : List Weighted) (z : ℤ) (a b v : ℕ) → a ≡ up z → b ≡ down z → eq-rule (linear-eq ws a b v) ≡ encode-weighted (op-of n) ws z v
   encode-eq e ws z a b v p q = rw (e, p, q)
 
-  pub encode-ne : n ≡ 1 → (ws : List Weighted) (z : ℤ) (a b v : ℕ) → a ≡ up z → b ≡ down z → linear-ne ws a b v ≡ encode-weighted (op-of n) ws z v
-  encode-ne e ws z a b v p q = rw (e, p, q)
-
-  pub encode-ge : (n ≡ 0 → ⊥) → (n ≡ 1 → ⊥) → (ws : List Weighted) (z : ℤ) (a b v : ℕ) → a ≡ up z → b ≡ down z → linear-ge ws a b v ≡ encode-weighted (op-of n) ws z v
-  encode-ge h k ws z a b v p q = rw (op-ge n h k, p, q)
+  pub encode-compared : (n ≡ 0 → ⊥) → (ws : List Weighted) (z : ℤ) (a b v : ℕ) → a ≡ up z → b ≡ down z → linear-compared (eqb n 1) ws a b v ≡ encode-weighted (op-of n) ws z v
+  encode-compared h ws z a b v p q = rw (p, q) (by-op n h)
+    where
+      by-op : (m : ℕ) → (m ≡ 0 → ⊥) → linear-compared (eqb m 1) ws (up z) (down z) v ≡ encode-weighted (op-of m) ws z v
+      by-op zero k = absurd (k refl)
+      by-op (suc zero) k = refl
+      by-op (suc (suc m)) k = rw (ne-eqb (suc (suc m)) 1 (omega arith))

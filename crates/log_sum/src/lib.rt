@@ -16,7 +16,7 @@ ghost use Rattle.log_gather.specs.Arrays.{AllSmall};
 ghost use Rattle.sat.specs.LitArray.{first-lits};
 ghost use Rattle.log_linear.specs.Added.{add-rule, rule-outcome};
 ghost use Rattle.log_linear.specs.EncodeLinearLog.{encode-linear-log, encode-weighted, eq-rule, offset-constant, weighted, weighted-terms};
-ghost use Rattle.log_linear.specs.Linear.{gather-sign, linear-eq, linear-ge, linear-ne, negated-constant, sign-adder};
+ghost use Rattle.log_linear.specs.Linear.{gather-sign, linear-compared, linear-eq, negated-constant, sign-adder};
 ghost use Rattle.log_linear.specs.Size.{linear-log-reached, linear-reached, sign-reached};
 ghost use Rattle.log_sum.specs.Added.{SumAdded, SumsAdded};
 ghost use Rattle.log_terms.specs.Terms.{TermFits, TermsFit, shapes-all, weighted-all, weighted-of};
@@ -38,8 +38,7 @@ use log_adder2::log_encoding_adder2;
 use log_gather::larger;
 use log_linear::Bits;
 use log_linear::RuleCounts;
-use log_linear::push_ge;
-use log_linear::push_ne;
+use log_linear::push_comparison;
 use log_terms::Weighted;
 use log_terms::gather;
 use log_terms::gather_sign;
@@ -145,10 +144,11 @@ fn both_sums(
     }
 }
 
-// Ne of terms with the constant a - b.
-fn weighted_ne(
+// Ne or Ge of terms with the constant a - b.
+fn weighted_comparison(
     lits: &mut [u32],
     ends: &mut [u32],
+    is_ne: bool,
     ts: [Weighted; 7],
     n: usize,
     steps: usize,
@@ -160,31 +160,10 @@ fn weighted_ne(
     requires { ⌜ TermsFit steps ts n ⌝ }
     requires { ⌜ (a < 33554432) × (b < 33554432) × (vars ≤ 1000000) × (at .lits ≤ 16777216) × (at .clauses ≤ 16777216) ⌝ }
     requires { ⌜ too-tall (sign-reached false (shapes-all ts n) a ++ sign-reached true (shapes-all ts n) b) ≡ false ⌝ }
-    ensures { λ r. ⌜ rule-outcome (now (lits .exit)) (now (ends .exit)) r ≡ add-rule (linear-ne (weighted-all ts n) a b vars) (after (now (lits .entry)) (now (ends .entry)) at) ⌝ }
+    ensures { λ r. ⌜ rule-outcome (now (lits .exit)) (now (ends .exit)) r ≡ add-rule (linear-compared «is_ne» (weighted-all ts n) a b vars) (after (now (lits .entry)) (now (ends .entry)) at) ⌝ }
 {
     let s = both_sums(lits, ends, ts, n, steps, a, b, vars, at);
-    push_ne(lits, ends, s.positive, s.negative, s.vars, s.used)
-}
-
-// Ge of terms with the constant a - b.
-fn weighted_ge(
-    lits: &mut [u32],
-    ends: &mut [u32],
-    ts: [Weighted; 7],
-    n: usize,
-    steps: usize,
-    a: u32,
-    b: u32,
-    vars: u32,
-    at: Counts,
-) -> RuleCounts
-    requires { ⌜ TermsFit steps ts n ⌝ }
-    requires { ⌜ (a < 33554432) × (b < 33554432) × (vars ≤ 1000000) × (at .lits ≤ 16777216) × (at .clauses ≤ 16777216) ⌝ }
-    requires { ⌜ too-tall (sign-reached false (shapes-all ts n) a ++ sign-reached true (shapes-all ts n) b) ≡ false ⌝ }
-    ensures { λ r. ⌜ rule-outcome (now (lits .exit)) (now (ends .exit)) r ≡ add-rule (linear-ge (weighted-all ts n) a b vars) (after (now (lits .entry)) (now (ends .entry)) at) ⌝ }
-{
-    let s = both_sums(lits, ends, ts, n, steps, a, b, vars, at);
-    push_ge(lits, ends, s.positive, s.negative, s.vars, s.used)
+    push_comparison(lits, ends, is_ne, s.positive, s.negative, s.vars, s.used)
 }
 
 // By how much a exceeds b.
@@ -327,10 +306,7 @@ pub fn encode_weighted(
     if op == 0 {
         return weighted_eq(lits, ends, ts, n, steps, a, b, vars, at);
     }
-    if op == 1 {
-        return weighted_ne(lits, ends, ts, n, steps, a, b, vars, at);
-    }
-    weighted_ge(lits, ends, ts, n, steps, a, b, vars, at)
+    weighted_comparison(lits, ends, op == 1, ts, n, steps, a, b, vars, at)
 }
 
 // How far a number is from 0.

@@ -2,14 +2,13 @@
 // store, so that a call that is lent nothing only counts.
 ghost use mathlib.Core.Path.{_≡_};
 ghost use mathlib.Core.Bool.{cond};
-ghost use mathlib.Core.List.{[], _∷_, map};
+ghost use mathlib.Core.List.{[], _∷_};
 ghost use Prim.Native.Nat.{_+_, _-_, _*_, _^_, _≤_, _<_};
-ghost use lib.ListN.{take};
 ghost use lib.Signed.{_<ℤ_, _≤ℤ_};
 ghost use Rattle.arithmetic.specs.Integers.{down, up};
 ghost use Rattle.arithmetic.specs.Offset.{code};
 ghost use Rattle.sat.specs.Fresh.{fresh};
-ghost use Rattle.sat.specs.LitArray.{first-lits, num};
+ghost use Rattle.sat.specs.LitArray.{first-lits};
 ghost use Rattle.clause_set.specs.Stores.{Fits, add-clauses, after};
 ghost use Rattle.norm_csp.specs.Domain.{binary, list, range};
 ghost use Rattle.log_var.specs.Binary.{binary-bits};

@@ -4,11 +4,11 @@ use lib.Dec.{leb}
 use lib.ListN.{getD, length, length-append}
 use mathlib.Core.Bool.{Bool, cond, false, true}
 use mathlib.Core.List.{List, [], _++_, _∷_}
-use mathlib.Core.Path.{_∙_, _≡_, ap, ap₂, refl, sym}
+use mathlib.Core.Path.{_∙_, _≡_, ap, ap₂, refl}
 use native.Mathlib.Omega.{arith}
 use Rattle.sat.specs.Clause.{Clauses}
-use Rattle.sat.specs.Size.{entries, weight-of}
-use Rattle.sat.proofs.Size.{weight-append, weight-entries, weight-length}
+use Rattle.sat.specs.Size.{weight-of}
+use Rattle.sat.proofs.Size.{weight-append}
 use Rattle.mixed.specs.Enumerate.{branch, enumerate, missed}
 use Rattle.mixed.specs.Tally.{shapes, tally, tally-branch}
 use Rattle.mixed.specs.Terms.{Term}
@@ -45,10 +45,3 @@ module _ (weigh : ℕ → ℕ) where
       go false = snoc p l
   enumerate-tally (t ∷ u ∷ ts) s p =
       branch-tally (enumerate (u ∷ ts)) (tally weigh (shapes (u ∷ ts))) (enumerate-tally (u ∷ ts)) (t .weight) (t .lits) s p
-
--- the two counts
-pub clause-count : (ts : List Term) (s : ℕ) → length (enumerate ts s []) ≡ tally (λ d. 1) (shapes ts) s 0
-clause-count ts s = sym (weight-length (enumerate ts s [])) ∙ enumerate-tally (λ d. 1) ts s []
-
-pub entry-count : (ts : List Term) (s : ℕ) → entries (enumerate ts s []) ≡ tally (λ d. d) (shapes ts) s 0
-entry-count ts s = sym (weight-entries (enumerate ts s [])) ∙ enumerate-tally (λ d. d) ts s []

@@ -1,4 +1,4 @@
--- tally
+-- The size of one inequality's clauses, from weights, numbers of thresholds and the slack alone.
 use Prim.Native.Nat.{_*_, _+_, _-_, suc, zero, ℕ}
 use lib.Dec.{leb}
 use lib.ListN.{length}

@@ -16,7 +16,7 @@ use Rattle.log_adder.specs.Size.{too-tall}
 use Rattle.log_linear.specs.Added.{add-rule}
 use Rattle.log_linear.specs.Size.{linear-reached, sign-reached}
 use Rattle.log_terms.specs.Terms.{shapes-all, weighted-all}
-use Rattle.log_sum.proofs.Parts.{encode-eq, encode-ge, encode-ne, reached-parts}
+use Rattle.log_sum.proofs.Parts.{encode-compared, encode-eq, reached-parts}
 
 -- the two parts of the constant
 a-is : (c : tie.After-up) → c .up .result ≡ up (c .before .before .before .args .constant)
@@ -56,16 +56,16 @@ returns c =
     ∙ ap (λ (r : EncodedRule). add-rule r (after (s .args .lits .now) (s .args .ends .now) (s .args .at)))
     (encode-eq (s .args .op) (c .before .before .before .before .before .before .before .if1 .taken) ws (s .args .constant) _ _ (s .args .vars) (a-is (c .before .before .before .before .before .before .before .before .before)) (b-is (c .before .before .before .before .before .before .before .before)))
 
-weighted-ne-requires : tie.Need-weighted-ne-requires
-weighted-ne-requires c κs =
-    let s = c .before .before .before .before .before .before .before .before in
+weighted-comparison-requires : tie.Need-weighted-comparison-requires
+weighted-comparison-requires c κs =
+    let s = c .before .before .before .before .before .before .before in
     let p = s .pre .1 .0 in
-    let a = a-is (c .before .before .before .before .before) in
-    let b = b-is (c .before .before .before .before) in
+    let a = a-is (c .before .before .before .before) in
+    let b = b-is (c .before .before .before) in
     let h = shapes-all (s .args .ts) (s .args .n) in
-    let t : too-tall (sign-reached false h (c .before .before .before .before .before .up .result) ++ sign-reached true h (c .before .before .before .before .down .result)) ≡ false =
+    let t : too-tall (sign-reached false h (c .before .before .before .before .up .result) ++ sign-reached true h (c .before .before .before .down .result)) ≡ false =
     (λ i. too-tall (sign-reached false h (a i) ++ sign-reached true h (b i)))
-    ∙ ap too-tall (sym (reached-parts (s .args .op) (c .before .before .before .if1 .left) h (up (s .args .constant)) (down (s .args .constant)))) ∙ s .pre .1 .1 in
+    ∙ ap too-tall (sym (reached-parts (s .args .op) (c .before .before .if1 .left) h (up (s .args .constant)) (down (s .args .constant)))) ∙ s .pre .1 .1 in
     (s .pre .0, ((omega (arith, p .0, a), omega (arith, p .1, b), p .2, p .3, p .4), t))
 
 same-length-3 : tie.Need-same-length-3
@@ -76,37 +76,11 @@ same-length-4 c = search needs
 
 returns-2 : tie.Need-returns-2
 returns-2 c =
-    let s = c .before .before .before .before .before .before .before .before .before .before .before .before .before in
+    let s = c .before .before .before .before .before .before .before .before .before .before .before .before in
     let ws = weighted-all (s .args .ts) (s .args .n) in
-    c .before .before .before .before .weighted-ne .ensures
+    c .before .before .before .before .weighted-comparison .ensures
     ∙ ap (λ (r : EncodedRule). add-rule r (after (s .args .lits .now) (s .args .ends .now) (s .args .at)))
-    (encode-ne (s .args .op) (c .before .before .before .before .before .before .before .if2 .taken) ws (s .args .constant) _ _ (s .args .vars) (a-is (c .before .before .before .before .before .before .before .before .before .before)) (b-is (c .before .before .before .before .before .before .before .before .before)))
-
-weighted-ge-requires : tie.Need-weighted-ge-requires
-weighted-ge-requires c κs =
-    let s = c .before .before .before .before .before .before .before .before in
-    let p = s .pre .1 .0 in
-    let a = a-is (c .before .before .before .before .before) in
-    let b = b-is (c .before .before .before .before) in
-    let h = shapes-all (s .args .ts) (s .args .n) in
-    let t : too-tall (sign-reached false h (c .before .before .before .before .before .up .result) ++ sign-reached true h (c .before .before .before .before .down .result)) ≡ false =
-    (λ i. too-tall (sign-reached false h (a i) ++ sign-reached true h (b i)))
-    ∙ ap too-tall (sym (reached-parts (s .args .op) (c .before .before .before .if1 .left) h (up (s .args .constant)) (down (s .args .constant)))) ∙ s .pre .1 .1 in
-    (s .pre .0, ((omega (arith, p .0, a), omega (arith, p .1, b), p .2, p .3, p .4), t))
-
-same-length-5 : tie.Need-same-length-5
-same-length-5 c = search needs
-
-same-length-6 : tie.Need-same-length-6
-same-length-6 c = search needs
-
-returns-3 : tie.Need-returns-3
-returns-3 c =
-    let s = c .before .before .before .before .before .before .before .before .before .before .before .before .before in
-    let ws = weighted-all (s .args .ts) (s .args .n) in
-    c .before .before .before .before .weighted-ge .ensures
-    ∙ ap (λ (r : EncodedRule). add-rule r (after (s .args .lits .now) (s .args .ends .now) (s .args .at)))
-    (encode-ge (s .args .op) (c .before .before .before .before .before .before .before .before .if1 .left) (c .before .before .before .before .before .before .before .if2 .left) ws (s .args .constant) _ _ (s .args .vars) (a-is (c .before .before .before .before .before .before .before .before .before .before)) (b-is (c .before .before .before .before .before .before .before .before .before)))
+    (encode-compared (s .args .op) (c .before .before .before .before .before .before .before .if1 .left) ws (s .args .constant) _ _ (s .args .vars) (a-is (c .before .before .before .before .before .before .before .before .before)) (b-is (c .before .before .before .before .before .before .before .before)))
 
 pub encode-weighted-spec : {M : Type 1} → statement M
 encode-weighted-spec =
@@ -118,11 +92,7 @@ encode-weighted-spec =
     same-length
     same-length-2
     returns
-    weighted-ne-requires
+    weighted-comparison-requires
     same-length-3
     same-length-4
-    returns-2
-    weighted-ge-requires
-    same-length-5
-    same-length-6
-    returns-3)
+    returns-2)

@@ -1,5 +1,4 @@
 use borrow.Author.Needs.{needs}
-use native.Mathlib.Omega.{arith}
 use Prim.Native.Nat.{ℕ, _<_}
 use Rattle.text.proofs.Numerals.{wrote-digit, wrote-digits}
 use borrow.Fn.Kinds.{In}
