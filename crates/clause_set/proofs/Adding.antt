@@ -96,3 +96,14 @@ module _ {b : ℕ} {d₀ e₀ d e : List ℕ} {a₀ a : Counts} {all now : List 
         lits-long = p ∙ g .lits-long;
         ends-long = q ∙ g .ends-long;
       }
+
+-- two lists of clauses one after the other
+module _ {b : ℕ} {a : Counts} (cs ds : List (List ℕ)) (f : Fits b a (cs ++ ds)) where
+  pub fits-first : Fits b a cs
+  fits-first = going-fits cs ds refl (going-start {d = []} {e = []} (cs ++ ds) f)
+
+  pub fits-then : (d e : List ℕ) {d₁ e₁ : List ℕ} {a₁ : Counts} → after d₁ e₁ a₁ ≡ add-clauses b cs (after d e a) → Fits b a₁ ds
+  fits-then d e {a₁ = a₁} w =
+      let u : a₁ .lits ≡ a .lits + entries cs = ap (λ (s : Stores). s .used) w ∙ used-after b cs (after d e a) in
+      let v : a₁ .clauses ≡ a .clauses + length cs = ap (λ (s : Stores). s .count) w ∙ count-after b cs (after d e a) in
+      record { lits = omega (arith, f .lits, entries-append cs ds); clauses = omega (arith, f .clauses, length-append cs ds) }

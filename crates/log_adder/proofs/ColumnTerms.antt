@@ -1,30 +1,31 @@
 -- The terms of a column as the code holds them are those of the definition; how many clauses they have.
-use mathlib.Core.Path.{_≡_, refl, ap, sym, _∙_}
-use mathlib.Core.Bool.{true, false}
+use mathlib.Core.Path.{_≡_, refl, ap, ap₂, sym, _∙_}
+use mathlib.Core.Bool.{Bool, cond, true, false}
 use mathlib.Core.List.{List, [], _∷_, _++_, map, append-assoc, map-append}
 use Prim.Native.Nat.{ℕ, zero, suc, _+_, _-_, _*_, _≤_, _<_}
 use native.Mathlib.Nat.{sub-zero}
 use native.Mathlib.Omega.{arith}
-use borrow.Author.Tests.{le-leb}
+use borrow.Author.Tests.{le-leb, leb-false, leb-true, lt-leb}
 use native.Mathlib.Numerals.{add-one}
+use lib.Dec.{leb}
 use lib.Seq.{take-suc, take-suc-set}
-use lib.ListN.{length, take, getD, set, replicate, length-set, length-append, length-map, length-take}
-use Rattle.sat.specs.Size.{entries}
+use lib.ListN.{length, take, getD, set, replicate, length-set, length-map, length-take}
 use Rattle.sat.specs.declared.Lit.{Lit}
 use Rattle.mixed.specs.declared.LinearInfo.{LinearInfo}
 use Rattle.log_adder.specs.declared.VarRange.{VarRange}
 use Rattle.log_adder.specs.declared.ColumnInfo.{ColumnInfo}
 use Rattle.sat.specs.Lit.{neg}
 use Rattle.mixed.specs.Terms.{Term, flip, singles, term}
-use Rattle.mixed.specs.Enumerate.{bounded}
-use Rattle.mixed.specs.Infos.{info-lit, info-term, thresholds}
+use Rattle.mixed.specs.Enumerate.{bounded, enumerate}
+use Rattle.mixed.specs.Infos.{equated, info-lit, info-term, negated-info, thresholds}
 use Rattle.sat.proofs.Fresh.{length-fresh}
-use Rattle.mixed.proofs.Flip.{flip-snoc, length-flip}
-use Rattle.mixed.proofs.Bound.{bounded-count, bounded-total, sizes}
+use Rattle.mixed.proofs.Flip.{flip-snoc}
+use Rattle.log_adder.specs.Adder2.{eq-column, eq-ge-terms, eq-le-terms}
 use Rattle.log_adder.specs.Column.{column, ge-terms, le-terms}
 use Rattle.sat.specs.Fresh.{fresh}
-use Rattle.log_adder.specs.ColumnInfo.{ColumnSized, column-clauses, column-infos, lit-info, own-lits, range-info, range-lits}
+use Rattle.log_adder.specs.ColumnInfo.{ColumnSized, column-clauses, column-infos, eq-infos, lit-info, own-lits, range-info, range-lits}
 use Rattle.sat.specs.LitArray.{lit, num}
+use Rattle.log_adder.proofs.ColumnMost.{Most, column-most, eq-column-most}
 
 fresh-last : (k v : ℕ) → fresh (suc k) v ≡ fresh k v ++ (2 * (v + k) ∷ [])
 fresh-last zero v = ap (λ (x : ℕ). x ∷ []) (omega arith)
@@ -51,10 +52,10 @@ range-thresholds-flipped w p (suc k) h =
     ap (λ (z : ℕ). neg z ∷ thresholds (range-info w true p) k) x ∙ ap (λ (l : List ℕ). neg (2 * (p .first .0 + k)) ∷ l) r
     ∙ sym (ap flip (fresh-last k (p .first .0)) ∙ flip-snoc (fresh k (p .first .0)) (2 * (p .first .0 + k)))
 
-pub range-term : (w : ℕ) (p : VarRange) → info-term (range-info w false p) ≡ term w (range-lits p)
+range-term : (w : ℕ) (p : VarRange) → info-term (range-info w false p) ≡ term w (range-lits p)
 range-term w p = ap (term w) (range-thresholds w p (p .count) (omega arith) ∙ ap (fresh (p .count)) (omega arith))
 
-pub range-term-flipped : (w : ℕ) (p : VarRange) → info-term (range-info w true p) ≡ term w (flip (range-lits p))
+range-term-flipped : (w : ℕ) (p : VarRange) → info-term (range-info w true p) ≡ term w (flip (range-lits p))
 range-term-flipped w p = ap (term w) (range-thresholds-flipped w p (p .count) (omega arith))
 
 lit-term : (l : Lit) → info-term (lit-info false l) ≡ term 1 (l .0 ∷ [])
@@ -67,92 +68,87 @@ lit-term-negated l = ap (λ (x : ℕ). term 1 (neg x ∷ [])) (omega arith)
 
 -- The terms of a column ----------------------------------------------------------------------------------------------
 
-pub lit-terms : (ls : List Lit) (ts : List LinearInfo) → map info-term (map (lit-info false) ls ++ ts) ≡ singles (map num ls) ++ map info-term ts
+lit-terms : (ls : List Lit) (ts : List LinearInfo) → map info-term (map (lit-info false) ls ++ ts) ≡ singles (map num ls) ++ map info-term ts
 lit-terms [] ts = refl
 lit-terms (l ∷ ls) ts = rw (lit-term l, lit-terms ls ts)
 
-pub lit-terms-negated : (ls : List Lit) (ts : List LinearInfo) → map info-term (map (lit-info true) ls ++ ts) ≡ singles (map neg (map num ls)) ++ map info-term ts
+lit-terms-negated : (ls : List Lit) (ts : List LinearInfo)
+    → map info-term (map negated-info (map (lit-info false) ls ++ ts)) ≡ singles (map neg (map num ls)) ++ map info-term (map negated-info ts)
 lit-terms-negated [] ts = refl
 lit-terms-negated (l ∷ ls) ts = rw (lit-term-negated l, lit-terms-negated ls ts)
 
 module _ (c : ColumnInfo) where
-  pub ge-terms-are : map info-term (column-infos c false) ≡ ge-terms (own-lits c) (range-lits (c .carry)) (range-lits (c .next)) (c .result .0)
-  ge-terms-are = lit-terms (take (c .height) (c .own)) _ ∙ rw (range-term 1 (c .carry), range-term-flipped 2 (c .next), lit-term-negated (c .result))
+  abbrev own· : List Lit
+  own· = take (c .height) (c .own)
 
-  pub le-terms-are : map info-term (column-infos c true) ≡ le-terms (own-lits c) (range-lits (c .carry)) (range-lits (c .next)) (c .result .0)
-  le-terms-are = lit-terms-negated (take (c .height) (c .own)) _ ∙ rw (range-term-flipped 1 (c .carry), range-term 2 (c .next), lit-term (c .result))
+  eq-ge-terms-are : map info-term (eq-infos c) ≡ eq-ge-terms (own-lits c) (range-lits (c .carry)) (range-lits (c .next))
+  eq-ge-terms-are = lit-terms own· _ ∙ rw (range-term 1 (c .carry), range-term-flipped 2 (c .next))
 
--- How many clauses ---------------------------------------------------------------------------------------------------
+  eq-le-terms-are : map info-term (map negated-info (eq-infos c)) ≡ eq-le-terms (own-lits c) (range-lits (c .carry)) (range-lits (c .next))
+  eq-le-terms-are = lit-terms-negated own· _ ∙ rw (range-term-flipped 1 (c .carry), range-term 2 (c .next))
 
-pub sizes-append : (xs ys : List Term) → sizes (xs ++ ys) ≡ sizes xs + sizes ys
-sizes-append [] ys = omega arith
-sizes-append (t ∷ xs) ys = omega (arith, sizes-append xs ys)
+  ge-terms-are : map info-term (column-infos c) ≡ ge-terms (own-lits c) (range-lits (c .carry)) (range-lits (c .next)) (c .result .0)
+  ge-terms-are =
+      map-append info-term (eq-infos c) (lit-info true (c .result) ∷ []) ∙ rw (eq-ge-terms-are, lit-term-negated (c .result)) (append-assoc (singles (own-lits c)) _ _)
 
-pub sizes-singles : (ls : List ℕ) → sizes (singles ls) ≡ length ls
-sizes-singles [] = refl
-sizes-singles (l ∷ ls) = omega (arith, sizes-singles ls)
-
-pub length-singles : (ls : List ℕ) → length (singles ls) ≡ length ls
-length-singles [] = refl
-length-singles (l ∷ ls) = ap suc (length-singles ls)
-
-pub own-most : (c : ColumnInfo) → length (own-lits c) ≤ c .height
-own-most c = rw (length-map, length-take) (omega arith)
-
-module _ (c : ColumnInfo) (z : ColumnSized c) where
-  pub ge-terms-size : sizes (ge-terms (own-lits c) (range-lits (c .carry)) (range-lits (c .next)) (c .result .0)) ≤ 19
-  ge-terms-size =
-      rw (sizes-append, sizes-singles, length-fresh (c .carry .count) (c .carry .first .0), length-flip, length-fresh (c .next .count) (c .next .first .0))
-      (omega (arith, own-most c, z))
-
-  pub le-terms-size : sizes (le-terms (own-lits c) (range-lits (c .carry)) (range-lits (c .next)) (c .result .0)) ≤ 19
-  le-terms-size =
-      rw (sizes-append, sizes-singles, length-map, length-flip, length-fresh (c .carry .count) (c .carry .first .0), length-fresh (c .next .count) (c .next .first .0))
-      (omega (arith, own-most c, z))
-
-  pub ge-terms-long : length (ge-terms (own-lits c) (range-lits (c .carry)) (range-lits (c .next)) (c .result .0)) ≤ 15
-  ge-terms-long = rw (length-append, length-singles) (omega (arith, own-most c, z))
-
-  pub le-terms-long : length (le-terms (own-lits c) (range-lits (c .carry)) (range-lits (c .next)) (c .result .0)) ≤ 15
-  le-terms-long = rw (length-append, length-singles, length-map) (omega (arith, own-most c, z))
+  le-terms-are : map info-term (map negated-info (column-infos c)) ≡ le-terms (own-lits c) (range-lits (c .carry)) (range-lits (c .next)) (c .result .0)
+  le-terms-are =
+      ap (map info-term) (map-append negated-info (eq-infos c) (lit-info true (c .result) ∷ []))
+      ∙ map-append info-term (map negated-info (eq-infos c)) (lit-info false (c .result) ∷ [])
+      ∙ rw (eq-le-terms-are, lit-term (c .result)) (append-assoc (singles (map neg (own-lits c))) _ _)
 
 -- The two inequalities -----------------------------------------------------------------------------------------------
 
--- the slacks, as the code has them
-abbrev pub ge-slack : ColumnInfo → ℕ
-ge-slack c = c .bit + c .height + c .carry .count
+leb-shift : (a b k : ℕ) → leb (b + k) (a + k) ≡ leb b a
+leb-shift a b k = go (leb b a) refl
+  where
+    go : (t : Bool) → leb b a ≡ t → leb (b + k) (a + k) ≡ t
+    go true e = let h : b ≤ a = leb-true b a e in le-leb (b + k) (a + k) (omega arith)
+    go false e = let h : a < b = leb-false b a e in lt-leb (b + k) (a + k) (omega arith)
 
-abbrev pub le-slack : ColumnInfo → ℕ
-le-slack c = 2 * c .next .count + 1
+-- moved up alike, they leave the same slack
+bounded-shift : (ts : List Term) (a b k : ℕ) → bounded ts (a + k) (b + k) ≡ bounded ts a b
+unfolding bounded
+bounded-shift ts a b k = ap₂ (λ (t : Bool) (s : ℕ). cond t (enumerate ts s []) ([] ∷ [])) (leb-shift a b k) (omega arith)
 
-abbrev pub ge-clauses : ColumnInfo → List (List ℕ)
-ge-clauses c = bounded (map info-term (column-infos c false)) (ge-slack c) 0
+-- document 01's height
+abbrev pub column-height : ColumnInfo → ℕ
+column-height c = c .height + c .carry .count
 
-abbrev pub le-clauses : ColumnInfo → List (List ℕ)
-le-clauses c = bounded (map info-term (column-infos c true)) (le-slack c) (c .bit)
+module _ (c : ColumnInfo) (z : ColumnSized c) (long : length (c .own) ≡ 12) where
+  own-length : length (own-lits c) ≡ c .height
+  own-length = rw (length-map, length-take) (omega (arith, z))
 
-module _ (c : ColumnInfo) (z : ColumnSized c) where
-  pub up-total : entries (ge-clauses c) ≤ 7864320
-  up-total = rw (ge-terms-are c) (bounded-total _ (ge-slack c) 0 (ge-terms-size c z) (ge-terms-long c z))
+  -- what the terms can lose, without the result's
+  abbrev lost : ℕ
+  lost = column-height c + 2 * c .next .count
 
-  pub up-count : length (ge-clauses c) ≤ 524288
-  up-count = rw (ge-terms-are c) (bounded-count _ (ge-slack c) 0 (ge-terms-size c z) (ge-terms-long c z))
+  pub eq-column-equated : (x y : ℕ) → eq-column (own-lits c) (range-lits (c .carry)) x (range-lits (c .next)) y ≡ equated (eq-infos c) (x + column-height c) y lost
+  unfolding eq-column
+  eq-column-equated x y =
+      let above : x + c .height + c .carry .count ≡ x + column-height c = omega arith in
+      let more : y + lost ≡ y + 2 * c .next .count + column-height c = omega arith in
+      rw (own-length, length-fresh (c .carry .count) (c .carry .first .0), length-fresh (c .next .count) (c .next .first .0), eq-ge-terms-are c, eq-le-terms-are c, above, more, bounded-shift _ (y + 2 * c .next .count) x (column-height c))
 
-  pub down-total : entries (le-clauses c) ≤ 7864320
-  down-total = rw (le-terms-are c) (bounded-total _ (le-slack c) (c .bit) (le-terms-size c z) (le-terms-long c z))
-
-  pub down-count : length (le-clauses c) ≤ 524288
-  down-count = rw (le-terms-are c) (bounded-count _ (le-slack c) (c .bit) (le-terms-size c z) (le-terms-long c z))
-
-  pub both : length (c .own) ≡ 12 → column-clauses c ≡ ge-clauses c ++ le-clauses c
+  pub column-equated : column-clauses c ≡ equated (column-infos c) (c .bit + column-height c) 0 (lost + 1)
   unfolding column bounded
-  both w =
-      let h : length (own-lits c) ≡ c .height = rw (length-map, length-take) (omega (arith, z)) in
-      let e : c .bit + length (own-lits c) + length (range-lits (c .carry)) ≡ ge-slack c = rw (h, length-fresh (c .carry .count) (c .carry .first .0)) in
-      let f : 2 * length (range-lits (c .next)) + 1 ≡ le-slack c = rw (length-fresh (c .next .count) (c .next .first .0)) in
-      let g : c .bit ≤ le-slack c = omega (arith, z) in
-      let k : 0 ≤ ge-slack c = omega arith in
-      rw (e, f, ge-terms-are c, le-terms-are c, le-leb 0 (ge-slack c) k, le-leb (c .bit) (le-slack c) g, sub-zero)
+  column-equated =
+      let above : c .bit + c .height + c .carry .count ≡ c .bit + column-height c = omega arith in
+      let slack : 2 * c .next .count + 1 - c .bit ≡ 0 + (lost + 1) - (c .bit + column-height c) = omega arith in
+      let fits : c .bit + column-height c ≤ 0 + (lost + 1) = omega (arith, z) in
+      rw (own-length, length-fresh (c .carry .count) (c .carry .first .0), length-fresh (c .next .count) (c .next .first .0), ge-terms-are c, le-terms-are c, above, slack, le-leb 0 (c .bit + column-height c) (omega arith), le-leb (c .bit + column-height c) (0 + (lost + 1)) fits, sub-zero)
+
+  own-few : length (own-lits c) + length (range-lits (c .carry)) ≤ 12
+  own-few = rw (own-length, length-fresh (c .carry .count) (c .carry .first .0)) (omega (arith, z))
+
+  next-few : length (range-lits (c .next)) ≤ 6
+  next-few = rw (length-fresh (c .next .count) (c .next .first .0)) (omega (arith, z))
+
+  pub column-size : Most (column-clauses c)
+  column-size = column-most (own-lits c) (range-lits (c .carry)) (range-lits (c .next)) own-few next-few (c .bit) (c .result .0)
+
+  pub eq-column-size : (x y : ℕ) → Most (eq-column (own-lits c) (range-lits (c .carry)) x (range-lits (c .next)) y)
+  eq-column-size = eq-column-most (own-lits c) (range-lits (c .carry)) (range-lits (c .next)) own-few next-few
 
 -- The array of terms -------------------------------------------------------------------------------------------------
 

@@ -7,8 +7,9 @@ pub mod MinusTwice
 pub mod Plain
 pub mod Size
 pub mod Heights
+pub mod ColumnMost
+pub mod ColumnStored
 pub mod ColumnTerms
-pub mod ColumnWritten
 pub mod OneColumn
 pub mod ColumnsLeft
 pub mod AdderLoops

@@ -8,19 +8,18 @@ use native.Mathlib.Omega.{arith}
 use lib.ListN.{length, take, set, length-set}
 use lib.Seq.{take-suc-set}
 use borrow.Rule.Slice.PartMut.{putMid}
-use Rattle.sat.specs.Size.{entries}
 use Rattle.sat.specs.declared.Lit.{Lit}
 use Rattle.clause_set.specs.declared.Counts.{Counts}
 use Rattle.log_adder.specs.declared.ColumnInfo.{ColumnInfo}
 use Rattle.log_adder.specs.declared.ColumnInput.{ColumnInput}
 use Rattle.log_adder.specs.declared.AdderState.{AdderState}
-use Rattle.clause_set.specs.Stores.{Stores, Within, add-clauses, after, stores}
-use Rattle.clause_set.proofs.Adding.{count-after, used-after}
+use Rattle.clause_set.specs.Stores.{Within, add-clauses, after, stores}
 use Rattle.clause_set.proofs.Tails.{lent-added, tail}
 use Rattle.log_adder.specs.ColumnInfo.{ColumnSized, column-clauses}
 use Rattle.sat.specs.LitArray.{lit, num}
 use Rattle.log_adder.specs.AdderState.{ColumnAdded, ColumnReady, InBounds, carry-count, next-carry, result-count, result-lit}
-use Rattle.log_adder.proofs.ColumnWritten.{column-count, column-total}
+use Rattle.log_adder.proofs.ColumnStored.{column-wrote}
+use Rattle.log_adder.proofs.ColumnTerms.{column-size}
 
 -- the column with the result l
 abbrev pub info-at : ColumnInput → AdderState → Lit → ColumnInfo
@@ -45,17 +44,10 @@ module _ (c : ColumnInput) (s : AdderState) (z : InBounds s) (y : ColumnReady c 
         own = y .own;
       }
 
-  module _ (own : length (c .own) ≡ 12) (d e : List ℕ) (b : ℕ) (d₁ e₁ : List ℕ) (w : Counts)
-      (k : after d₁ e₁ w ≡ add-clauses b (column-clauses (info-at c s l)) (stores d e 0 0)) where
-    pub wrote-lits : w .lits ≤ 15728640
-    wrote-lits =
-        let n : w .lits ≡ 0 + entries (column-clauses (info-at c s l)) = ap (λ (x : Stores). x .used) k ∙ used-after b (column-clauses (info-at c s l)) (stores d e 0 0) in
-        omega (arith, column-total (info-at c s l) sized own)
-
-    pub wrote-clauses : w .clauses ≤ 1048576
-    wrote-clauses =
-        let n : w .clauses ≡ 0 + length (column-clauses (info-at c s l)) = ap (λ (x : Stores). x .count) k ∙ count-after b (column-clauses (info-at c s l)) (stores d e 0 0) in
-        omega (arith, column-count (info-at c s l) sized own)
+  -- how much it wrote into the free tails
+  pub wrote : length (c .own) ≡ 12 → (d e : List ℕ) (b : ℕ) (d₁ e₁ : List ℕ) (w : Counts)
+      → after d₁ e₁ w ≡ add-clauses b (column-clauses (info-at c s l)) (stores d e 0 0) → (w .lits ≤ 15728640) × (w .clauses ≤ 1048576)
+  wrote own d e b = column-wrote (column-clauses (info-at c s l)) (column-size (info-at c s l) sized own) b d e
 
   pub column-added : (own : length (c .own) ≡ 12) (d e : List ℕ) (f g : ℕ) → Within (s .used .lits) (length d) f → Within (s .used .clauses) (length e) g
       → (d₁ e₁ : List ℕ) (w : Counts) → after d₁ e₁ w ≡ add-clauses (s .used .lits) (column-clauses (info-at c s l)) (stores (tail d f) (tail e g) 0 0)
@@ -77,7 +69,7 @@ module _ (c : ColumnInput) (s : AdderState) (z : InBounds s) (y : ColumnReady c 
               vars = omega (arith, y, z);
               carry = omega (arith, y, z);
               few = omega (arith, y, z);
-              lits = omega (arith, z, wrote-lits own (tail d f) (tail e g) (s .used .lits) d₁ e₁ w k);
-              clauses = omega (arith, z, wrote-clauses own (tail d f) (tail e g) (s .used .lits) d₁ e₁ w k);
+              lits = omega (arith, z, wrote own (tail d f) (tail e g) (s .used .lits) d₁ e₁ w k .0);
+              clauses = omega (arith, z, wrote own (tail d f) (tail e g) (s .used .lits) d₁ e₁ w k .1);
             };
       }

@@ -1,6 +1,6 @@
 -- A column as the code holds it.
 use Prim.Native.Nat.{ℕ, _+_, _*_, _^_, _≤_, _<_}
-use mathlib.Core.Bool.{Bool, not}
+use mathlib.Core.Bool.{Bool, false, true}
 use mathlib.Core.List.{List, [], _∷_, _++_, map}
 use lib.ListN.{take, getD}
 use Rattle.sat.specs.LitArray.{first-lits, lit}
@@ -30,8 +30,13 @@ lit-info s l = record { weight = 1; falling = s; first = l; count = 1 }
 abbrev pub range-info : ℕ → Bool → VarRange → LinearInfo
 range-info w s p = record { weight = w; falling = s; first = lit (2 * p .first .0); count = p .count }
 
-abbrev pub column-infos : ColumnInfo → Bool → List LinearInfo
-column-infos c s = map (lit-info s) (take (c .height) (c .own)) ++ (range-info 1 s (c .carry) ∷ range-info 2 (not s) (c .next) ∷ lit-info (not s) (c .result) ∷ [])
+-- own + carry - 2 next
+abbrev pub eq-infos : ColumnInfo → List LinearInfo
+eq-infos c = map (lit-info false) (take (c .height) (c .own)) ++ (range-info 1 false (c .carry) ∷ range-info 2 true (c .next) ∷ [])
+
+-- own + carry - 2 next - result
+abbrev pub column-infos : ColumnInfo → List LinearInfo
+column-infos c = eq-infos c ++ (lit-info true (c .result) ∷ [])
 
 -- a column within bounds
 pub record ColumnSized (c : ColumnInfo) : Type 0 where

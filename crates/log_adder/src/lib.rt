@@ -55,10 +55,10 @@ fn range_info(weight: u32, falling: bool, vars: VarRange) -> LinearInfo
     }
 }
 
-// The terms of a column: own + carry - 2 next - result, or the same negated.
-pub fn infos(c: ColumnInfo, negated: bool) -> [LinearInfo; 15]
+// The terms of a column: own + carry - 2 next - result.
+pub fn infos(c: ColumnInfo) -> [LinearInfo; 15]
     requires { ⌜ ColumnSized c ⌝ }
-    ensures { λ r. ⌜ (take (c .height + 3) r ≡ column-infos c negated) × AllSmall r ⌝ }
+    ensures { λ r. ⌜ (take (c .height + 3) r ≡ column-infos c) × AllSmall r ⌝ }
 {
     let own = c.own;
     let n = c.height as usize;
@@ -71,13 +71,13 @@ pub fn infos(c: ColumnInfo, negated: bool) -> [LinearInfo; 15]
     let mut ts = [none; 15];
     let mut i: usize = 0;
     while i < n {
-        let t = lit_info(negated, own[i]);
+        let t = lit_info(false, own[i]);
         ts[i] = t;
         i += 1;
     }
-    let carry = range_info(1, negated, c.carry);
-    let next = range_info(2, !negated, c.next);
-    let result = lit_info(!negated, c.result);
+    let carry = range_info(1, false, c.carry);
+    let next = range_info(2, true, c.next);
+    let result = lit_info(true, c.result);
     ts[n] = carry;
     ts[n + 1] = next;
     ts[n + 2] = result;
@@ -94,30 +94,20 @@ pub fn push_column(lits: &mut [u32], ends: &mut [u32], c: ColumnInfo, base: u32)
         clauses: 0,
         lits: 0,
     };
-    let n = c.height as usize;
     let carry = c.carry;
     let next = c.next;
-    let most = c.bit as u64 + c.height as u64 + carry.count as u64;
-    let least = 2 * next.count as u64 + 1;
-    let up = mixed::encode_linear_ge_mixed_from_info(
+    let high = c.height as u64 + carry.count as u64;
+    let total = high + 2 * next.count as u64 + 1;
+    mixed::encode_linear_eq_mixed_from_info(
         lits,
         ends,
-        infos(c, false),
-        n + 3,
-        most,
+        infos(c),
+        c.height as usize + 3,
+        c.bit as u64 + high,
         0,
+        total,
         base,
         none,
-    );
-    mixed::encode_linear_ge_mixed_from_info(
-        lits,
-        ends,
-        infos(c, true),
-        n + 3,
-        least,
-        c.bit as u64,
-        base,
-        up,
     )
 }
 

@@ -1,4 +1,4 @@
-pub mod Halves
+pub mod EqColumnStored
 pub mod Ordering
 pub mod EqHeights
 pub mod Passes

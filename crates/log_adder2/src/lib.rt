@@ -105,32 +105,20 @@ fn push_eq_column(
         clauses: 0,
         lits: 0,
     };
-    let n = c.height as usize;
     let carry = c.carry;
     let next = c.next;
-    let a = x as u64;
-    let b = y as u64;
-    let most = a + c.height as u64 + carry.count as u64;
-    let least = b + 2 * next.count as u64;
-    let up = mixed::encode_linear_ge_mixed_from_info(
+    let high = c.height as u64 + carry.count as u64;
+    let total = high + 2 * next.count as u64;
+    mixed::encode_linear_eq_mixed_from_info(
         lits,
         ends,
-        log_adder::infos(c, false),
-        n + 2,
-        most,
-        b,
+        log_adder::infos(c),
+        c.height as usize + 2,
+        x as u64 + high,
+        y as u64,
+        total,
         base,
         none,
-    );
-    mixed::encode_linear_ge_mixed_from_info(
-        lits,
-        ends,
-        log_adder::infos(c, true),
-        n + 2,
-        least,
-        a,
-        base,
-        up,
     )
 }
 

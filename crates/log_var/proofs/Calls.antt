@@ -19,7 +19,7 @@ use Rattle.sat.specs.Fresh.{fresh}
 use Rattle.sat.proofs.Fresh.{length-fresh}
 use Rattle.clause_set.specs.declared.Counts.{Counts}
 use Rattle.clause_set.specs.Stores.{Fits, Stores, add-clauses, after}
-use Rattle.clause_set.proofs.Adding.{add-append}
+use Rattle.clause_set.proofs.Adding.{add-append, fits-then}
 use Rattle.norm_csp.specs.Domain.{binary, last-from, list, range}
 use Rattle.log_var.specs.Binary.{binary-bits}
 use Rattle.log_var.specs.Calls.{Ready, VarAdded}
@@ -34,7 +34,6 @@ use Rattle.log_var.specs.declared.EncodedVar.{EncodedVar}
 use Rattle.log_var.specs.declared.LogEncoding.{LogEncoding as Encoding}
 use Rattle.log_var.proofs.Bits.{bits-long}
 use Rattle.log_var.proofs.Bounds.{codes-fit, ready-fits, rising-last}
-use Rattle.log_var.proofs.Steps.{fits-then}
 
 -- a small signed number, as the machine reads it
 pub small-read : (z : ℤ) → up z < 4096 → down z < 4096 → toZ w32 (ofZ w32 z) ≡ z

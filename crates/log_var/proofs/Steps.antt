@@ -1,7 +1,7 @@
 -- One turn of each loop: what a definition gives while something is left, in the loop's own terms.
 use Prim.Native.Nat.{_%_, _*_, _+_, _-_, _/_, _<_, _≤_, suc, ℕ}
 use borrow.Author.Tests.{eq-eqb, eqb-false, eqb-true, ne-eqb}
-use lib.ListN.{length, length-append, set}
+use lib.ListN.{length, set}
 use lib.Seq.{sets}
 use mathlib.Core.Bool.{Bool, Bool·beq, cond, false, not, true}
 use mathlib.Core.List.{List, [], _++_, _∷_}
@@ -11,11 +11,10 @@ use Rattle.arithmetic.specs.Bits.{odd}
 use Rattle.sat.specs.Clause.{Clauses}
 use Rattle.sat.specs.Fresh.{fresh}
 use Rattle.sat.specs.Lit.{as-lit, neg}
-use Rattle.sat.specs.Size.{entries}
 use Rattle.sat.proofs.Fresh.{length-fresh}
 use Rattle.clause_set.specs.Stores.{Fits, Stores, add-clauses, after, stores}
 use Rattle.clause_set.specs.declared.Counts.{Counts}
-use Rattle.clause_set.proofs.Adding.{Going, count-after, going-fits, going-start, one-added, entries-append, used-after}
+use Rattle.clause_set.proofs.Adding.{Going, going-start, one-added}
 use Rattle.log_var.specs.Parts.{bound}
 use Rattle.log_var.specs.Domain.{against, at-least, at-most, gap}
 use Rattle.log_var.proofs.Size.{length-against}
@@ -27,17 +26,6 @@ going-restart {b} {d} {e} {a} {all} p f = subst (Going b d e a all d e a) p (goi
 pub going-end : {b : ℕ} {d₀ e₀ d e : List ℕ} {a₀ a : Counts} {all rest : Clauses} → Going b d₀ e₀ a₀ all d e a rest → rest ≡ []
     → after d e a ≡ add-clauses b all (after d₀ e₀ a₀)
 going-end {b} {d = d} {e = e} {a = a} g p = sym (g .same ∙ ap (λ cs. add-clauses b cs (after d e a)) p)
-
--- two lists of clauses one after the other
-module _ {b : ℕ} {a : Counts} (cs ds : Clauses) (f : Fits b a (cs ++ ds)) where
-  pub fits-first : Fits b a cs
-  fits-first = going-fits cs ds refl (going-start {d = []} {e = []} (cs ++ ds) f)
-
-  pub fits-then : (d e : List ℕ) {d₁ e₁ : List ℕ} {a₁ : Counts} → after d₁ e₁ a₁ ≡ add-clauses b cs (after d e a) → Fits b a₁ ds
-  fits-then d e {a₁ = a₁} w =
-      let u : a₁ .lits ≡ a .lits + entries cs = ap (λ (s : Stores). s .used) w ∙ used-after b cs (after d e a) in
-      let v : a₁ .clauses ≡ a .clauses + length cs = ap (λ (s : Stores). s .count) w ∙ count-after b cs (after d e a) in
-      record { lits = omega (arith, f .lits, entries-append cs ds); clauses = omega (arith, f .clauses, length-append cs ds) }
 
 -- New variables ------------------------------------------------------------------------------------------------------
 

@@ -1,5 +1,4 @@
--- The clauses of an inequality, as the code comes by them: at the last term, at a term with others after it, at a threshold of it.
---
+-- The clauses of an inequality, as the code comes by them: at the last term, at a term with others after it, at a threshold of it; the terms negated.
 use mathlib.Core.Path.{_≡_, refl, subst⁻¹, ap, _∙_}
 use mathlib.Core.List.{List, [], _∷_, _++_, map}
 use Prim.Native.Nat.{ℕ, zero, suc, _+_, _-_, _*_, _/_, _^_, _≤_, _<_}
@@ -8,11 +7,11 @@ use native.Mathlib.Numerals.{add-one, sub-one}
 use native.Mathlib.Omega.{arith}
 use borrow.Author.Tests.{lt-leb, le-leb}
 use lib.Pow.{pow-pos, pow-add}
-use lib.ListN.{length, getD}
+use lib.ListN.{drop, length, getD, set, take}
 use lib.Seq.{slice-cons, slice-empty}
 use Rattle.mixed.specs.declared.LinearInfo.{LinearInfo}
 use Rattle.mixed.specs.Enumerate.{branch, enumerate, bounded}
-use Rattle.mixed.specs.Infos.{info-lit, thresholds, info-term, no-info, infos-left}
+use Rattle.mixed.specs.Infos.{AllSmall, info-lit, thresholds, info-term, no-info, infos-left, negated-info}
 
 -- the product of two numbers of k bits has at most k + k
 pub below : (k : ℕ) {a b : ℕ} → a < 2 ^ k → b < 2 ^ k → a * b < 2 ^ (k + k)
@@ -99,3 +98,31 @@ module _ (rest : ℕ → List ℕ → List (List ℕ)) (t : LinearInfo) (s : ℕ
       → branch rest (t .weight) (thresholds t k) s p ≡ rest (s - t .weight * k) (p ++ info-lit t (t .count - k) ∷ []) ++ branch rest (t .weight) (thresholds t (k - 1)) s p
   steps-on zero z h = absurd (not-suc-le-zero z)
   steps-on (suc k) z h = rw (length-thresholds t k, le-leb (t .weight * suc k) s h, sub-one (suc k))
+
+-- Negated terms ------------------------------------------------------------------------------------------------------
+
+-- the first i of the terms negated: one more
+pub negated-more : (ts : List LinearInfo) (i : ℕ) → i < length ts
+    → (let out = map negated-info (take i ts) ++ drop i ts in set out i (negated-info (getD out i no-info)))
+    ≡ map negated-info (take (suc i) ts) ++ drop (suc i) ts
+negated-more [] i h = absurd (not-suc-le-zero h)
+negated-more (t ∷ ts) zero h = refl
+negated-more (t ∷ ts) (suc i) h = ap (λ (us : List LinearInfo). negated-info t ∷ us) (negated-more ts i (omega arith))
+
+-- and all of them
+pub negated-end : (ts : List LinearInfo) (i : ℕ) → length ts ≤ i → map negated-info (take i ts) ++ drop i ts ≡ map negated-info ts
+negated-end [] zero h = refl
+negated-end [] (suc i) h = refl
+negated-end (t ∷ ts) zero h = absurd (not-suc-le-zero h)
+negated-end (t ∷ ts) (suc i) h = ap (λ (us : List LinearInfo). negated-info t ∷ us) (negated-end ts i (omega arith))
+
+pub negated-small : (ts : List LinearInfo) → AllSmall ts → AllSmall (map negated-info ts)
+negated-small [] h k = h k
+negated-small (t ∷ ts) h zero = record { top = h zero .top }
+negated-small (t ∷ ts) h (suc k) = negated-small ts (λ (j : ℕ). h (suc j)) k
+
+pub negated-left : (ts : List LinearInfo) (n : ℕ) → infos-left (map negated-info ts) n 0 ≡ map negated-info (infos-left ts n 0)
+negated-left [] zero = refl
+negated-left [] (suc n) = refl
+negated-left (t ∷ ts) zero = refl
+negated-left (t ∷ ts) (suc n) = ap (λ (us : List LinearInfo). negated-info t ∷ us) (negated-left ts n)

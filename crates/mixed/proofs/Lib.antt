@@ -4,6 +4,7 @@ pub mod Below
 pub mod Order
 pub mod Tally
 pub mod Infos
+pub mod Equated
 pub mod Bound
 pub mod Stored
 pub mod Table

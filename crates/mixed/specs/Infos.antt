@@ -1,9 +1,11 @@
 -- The terms of an inequality as the code holds them.
 use Prim.Native.Nat.{_*_, _+_, _-_, _<_, _^_, suc, zero, ℕ}
 use lib.ListN.{drop, getD, take}
-use mathlib.Core.Bool.{cond, false}
-use mathlib.Core.List.{List, [], _∷_}
+use mathlib.Core.Bool.{cond, false, not}
+use mathlib.Core.List.{List, [], _++_, _∷_, map}
+use Rattle.sat.specs.Clause.{Clauses}
 use Rattle.sat.specs.Lit.{neg}
+use Rattle.mixed.specs.Enumerate.{bounded}
 use Rattle.mixed.specs.Terms.{Term}
 use Rattle.mixed.specs.declared.LinearInfo.{LinearInfo}
 
@@ -33,3 +35,12 @@ AllSmall ts = (k : ℕ) → Small (getD ts k no-info)
 -- the terms from `at` on, of the first n
 abbrev pub infos-left : List LinearInfo → ℕ → ℕ → List LinearInfo
 infos-left ts n at = drop at (take n ts)
+
+-- the term of minus the number
+abbrev pub negated-info : LinearInfo → LinearInfo
+negated-info t = record { weight = t .weight; falling = not (t .falling); first = t .first; count = t .count }
+
+-- both inequalities of an equation, the second over the negated terms; the terms can lose `total`
+abbrev pub equated : List LinearInfo → ℕ → ℕ → ℕ → Clauses
+equated ts above below total =
+    bounded (map info-term ts) above below ++ bounded (map info-term (map negated-info ts)) (below + total) above

@@ -10,7 +10,7 @@ ghost use mathlib.Core.Bool.{_&&_};
 ghost use Rattle.clause_set.specs.Clause.{clause-lits};
 ghost use Rattle.clause_set.specs.Stores.{Fits, add-clauses, after};
 ghost use Rattle.mixed.specs.Enumerate.{bounded, enumerate};
-ghost use Rattle.mixed.specs.Infos.{AllSmall, Small, info-lit, info-term, infos-left};
+ghost use Rattle.mixed.specs.Infos.{AllSmall, Small, equated, info-lit, info-term, infos-left, negated-info};
 ghost use Rattle.mixed.specs.Table.{Filled, SamePrefix, SoundTable, counts, put-last, put-rows, walk};
 use clause_set::Clause;
 use clause_set::Counts;
@@ -364,4 +364,55 @@ pub fn encode_linear_ge_mixed_from_info(
         return encode_table(lits, ends, &tab, left, slack, base, at);
     }
     encode_sub_plain(lits, ends, ts, n, 0, slack, Clause::empty(), base, at)
+}
+
+// The term of minus the number.
+fn negated(t: LinearInfo) -> LinearInfo
+    ensures { λ r. ⌜ r ≡ negated-info t ⌝ }
+{
+    let first = t.first;
+    LinearInfo {
+        weight: t.weight,
+        falling: !t.falling,
+        first,
+        count: t.count,
+    }
+}
+
+// The terms of minus a sum.
+fn negate_all(ts: [LinearInfo; 15]) -> [LinearInfo; 15]
+    requires { ⌜ AllSmall ts ⌝ }
+    ensures { λ r. ⌜ (r ≡ map negated-info ts) × AllSmall r ⌝ }
+{
+    let mut out = ts;
+    let mut i: usize = 0;
+    while i < 15 {
+        let t = out[i];
+        let opposite = negated(t);
+        out[i] = opposite;
+        i += 1;
+    }
+    out
+}
+
+// The clauses of an equation: both inequalities, the second over the negated terms. `total` is what the terms can lose.
+pub fn encode_linear_eq_mixed_from_info(
+    lits: &mut [u32],
+    ends: &mut [u32],
+    ts: [LinearInfo; 15],
+    n: usize,
+    above: u64,
+    below: u64,
+    total: u64,
+    base: u32,
+    at: Counts,
+) -> Counts
+    requires { ⌜ AllSmall ts ⌝ }
+    requires { ⌜ (n ≤ 15) × (below + total < 2 ^ 64) ⌝ }
+    requires { ⌜ Fits base at (equated (infos-left ts n 0) above below total) ⌝ }
+    ensures { λ r. ⌜ after (now (lits .exit)) (now (ends .exit)) r ≡ add-clauses base (equated (infos-left ts n 0) above below total) (after (now (lits .entry)) (now (ends .entry)) at) ⌝ }
+{
+    let up = encode_linear_ge_mixed_from_info(lits, ends, ts, n, above, below, base, at);
+    let down = negate_all(ts);
+    encode_linear_ge_mixed_from_info(lits, ends, down, n, below + total, above, base, up)
 }

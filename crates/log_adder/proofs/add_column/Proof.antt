@@ -5,7 +5,7 @@ use lib.ListN.{length, length-map}
 use borrow.Author.Needs.{needs}
 use Rattle.log_adder.proofs.add_column.Statement.{statement}
 use Rattle.log_adder.proofs.add_column.Tie as tie
-use Rattle.log_adder.proofs.OneColumn.{sized, column-added, wrote-clauses, wrote-lits}
+use Rattle.log_adder.proofs.OneColumn.{sized, column-added, wrote}
 
 -- the array of own literals has 12 places
 own-long : (c : tie.Start) → length (c .args .c .own) ≡ 12
@@ -78,14 +78,14 @@ add-t28 c =
     let s = c .before .before .before .before .before .before .before .before .before .before .before .before .before .before .before .before .before .before .before .before .before .before .before in
     let l = c .before .before .before .before .before .before .before .before .before .before .before .before .before .before .before .before .result-of in
     let w = c .before .before .before .before .before .before .before .before .push-column in
-    omega (arith, s .pre .0, s .pre .1, wrote-clauses (s .args .c) (s .args .s) (s .pre .0) (s .pre .1) (l .result) (l .ensures) (own-long s) _ _ (s .args .s .used .lits) _ _ (w .result) (w .ensures))
+    omega (arith, s .pre .0, s .pre .1, wrote (s .args .c) (s .args .s) (s .pre .0) (s .pre .1) (l .result) (l .ensures) (own-long s) _ _ (s .args .s .used .lits) _ _ (w .result) (w .ensures) .1)
 
 add-t26 : tie.Need-add-t26
 add-t26 c =
     let s = c .before .before .before .before .before .before .before .before .before .before .before .before .before .before .before .before .before .before .before .before .before .before .before .before .before in
     let l = c .before .before .before .before .before .before .before .before .before .before .before .before .before .before .before .before .before .before .result-of in
     let w = c .before .before .before .before .before .before .before .before .before .before .push-column in
-    omega (arith, s .pre .0, s .pre .1, wrote-lits (s .args .c) (s .args .s) (s .pre .0) (s .pre .1) (l .result) (l .ensures) (own-long s) _ _ (s .args .s .used .lits) _ _ (w .result) (w .ensures))
+    omega (arith, s .pre .0, s .pre .1, wrote (s .args .c) (s .args .s) (s .pre .0) (s .pre .1) (l .result) (l .ensures) (own-long s) _ _ (s .args .s .used .lits) _ _ (w .result) (w .ensures) .0)
 
 same-length : tie.Need-same-length
 same-length c = search needs

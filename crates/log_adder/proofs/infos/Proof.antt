@@ -1,9 +1,9 @@
 -- `log_adder::infos` meets its contract.
 use mathlib.Core.Path.{_≡_, refl, ap, sym, _∙_}
-use mathlib.Core.List.{map}
+use mathlib.Core.List.{[], _∷_, append-assoc, map}
 use Prim.Native.Nat.{ℕ, _+_, _-_, _≤_}
 use native.Mathlib.Omega.{arith}
-use mathlib.Core.Bool.{not}
+use mathlib.Core.Bool.{false, true}
 use lib.Dec.{lit<}
 use lib.ListN.{length, take, getD, set, length-set, length-map}
 use borrow.Author.Needs.{needs}
@@ -15,11 +15,11 @@ use Rattle.log_adder.proofs.infos.Statement.{statement}
 use Rattle.log_adder.proofs.infos.Tie as tie
 
 abbrev Inv-loop : tie.InvT-loop
-Inv-loop c negated own n ts₀ i₀ ts i =
-    (i ≤ n) × (length ts ≡ 15) × (take i ts ≡ map (lit-info negated) (take i own)) × AllSmall ts
+Inv-loop c own n ts₀ i₀ ts i =
+    (i ≤ n) × (length ts ≡ 15) × (take i ts ≡ map (lit-info false) (take i own)) × AllSmall ts
 
 abbrev μ-loop : tie.MeasureT-loop
-μ-loop c negated own n ts₀ i₀ ts i = n - i
+μ-loop c own n ts₀ i₀ ts i = n - i
 
 -- the array of own literals has 12 places
 own-long : (c : tie.Start Inv-loop μ-loop) → length (c .args .c .own) ≡ 12
@@ -56,11 +56,11 @@ loop-again : tie.Need-loop-again Inv-loop μ-loop
 loop-again c =
     let s = c .before .before .before .before .before .before in
     let l = c .before .before .before .loop in
-    let x = lit-info (s .args .negated) (getD (s .args .c .own) (l .i) (lit 0)) in
+    let x = lit-info false (getD (s .args .c .own) (l .i) (lit 0)) in
     rw (c .lit-info .ensures) (
       omega arith,
       length-set (l .ts) (l .i) x ∙ l .inv .1,
-      infos-more (lit-info (s .args .negated)) (s .args .c .own) (l .ts) (l .i) (omega (arith, own-long s, s .pre)) (omega (arith, s .pre)) (l .inv .2),
+      infos-more (lit-info false) (s .args .c .own) (l .ts) (l .i) (omega (arith, own-long s, s .pre)) (omega (arith, s .pre)) (l .inv .2),
       every-set no-info Small (l .ts) (l .i) x (l .inv .3) (record { top = omega (arith, s .pre .own (l .i)) }),
     )
 
@@ -104,13 +104,13 @@ returns c =
     let l = c .before .before .before .before .loop in
     let n : ℕ = a .c .height in
     let done : l .i ≡ n = omega arith in
-    let x = range-info 1 (a .negated) (a .c .carry) in
-    let y = range-info 2 (not (a .negated)) (a .c .next) in
-    let z = lit-info (not (a .negated)) (a .c .result) in
-    let own : take n (l .ts) ≡ map (lit-info (a .negated)) (take n (a .c .own)) =
-    ap (λ (k : ℕ). take k (l .ts)) (sym done) ∙ l .inv .2 ∙ ap (λ (k : ℕ). map (lit-info (a .negated)) (take k (a .c .own))) done in
+    let x = range-info 1 false (a .c .carry) in
+    let y = range-info 2 true (a .c .next) in
+    let z = lit-info true (a .c .result) in
+    let own : take n (l .ts) ≡ map (lit-info false) (take n (a .c .own)) =
+    ap (λ (k : ℕ). take k (l .ts)) (sym done) ∙ l .inv .2 ∙ ap (λ (k : ℕ). map (lit-info false) (take k (a .c .own))) done in
     rw (c .before .before .range-info .ensures, c .before .range-info2 .ensures, c .lit-info2 .ensures) (
-      infos-three (l .ts) n x y z _ (omega (arith, s .pre)) own,
+      infos-three (l .ts) n x y z _ (omega (arith, s .pre)) own ∙ sym (append-assoc (map (lit-info false) (take n (a .c .own))) (x ∷ y ∷ []) (z ∷ [])),
       every-set no-info Small (set (set (l .ts) n x) (n + 1) y) (n + 2) z
           (every-set no-info Small (set (l .ts) n x) (n + 1) y
           (every-set no-info Small (l .ts) n x (l .inv .3) (record { top = omega (arith, s .pre) }))

@@ -1,69 +1,61 @@
 -- `log_adder::push_column` meets its contract.
-use mathlib.Core.Path.{sym, _∙_}
+use mathlib.Core.Path.{_≡_, sym, _∙_}
 use native.Mathlib.Omega.{arith}
-use lib.ListN.{length-map}
+use lib.ListN.{length, length-map}
 use borrow.Author.Needs.{needs}
+use Rattle.log_adder.specs.ColumnInfo.{column-clauses}
+use Rattle.log_adder.proofs.ColumnStored.{column-fits, equated-added, equated-fits}
+use Rattle.log_adder.proofs.ColumnTerms.{column-equated, column-size}
 use Rattle.log_adder.proofs.push_column.Statement.{statement}
 use Rattle.log_adder.proofs.push_column.Tie as tie
-use Rattle.log_adder.proofs.ColumnWritten.{first-fits, second, second-fits}
 
-cast-n : tie.Need-cast-n
-cast-n c = search needs
+-- the array of own literals has 12 places
+own-long : (c : tie.Start) → length (c .args .c .own) ≡ 12
+own-long c = sym (length-map (c .args .c .own) _) ∙ c .good .1 .1 .0 .1 .1 .0 .1 .0 .1
 
-cast-most : tie.Need-cast-most
-cast-most c = search needs
+cast-high : tie.Need-cast-high
+cast-high c = search needs
 
-cast-most-2 : tie.Need-cast-most-2
-cast-most-2 c = search needs
+cast-high-2 : tie.Need-cast-high-2
+cast-high-2 c = search needs
 
-add-most : tie.Need-add-most
-add-most c = search needs
+add-high : tie.Need-add-high
+add-high c = search needs
 
-cast-most-3 : tie.Need-cast-most-3
-cast-most-3 c = search needs
+cast-total : tie.Need-cast-total
+cast-total c = search needs
 
-add-most-2 : tie.Need-add-most-2
-add-most-2 c = search needs
+mul-total : tie.Need-mul-total
+mul-total c = search needs
 
-cast-least : tie.Need-cast-least
-cast-least c = search needs
+add-total : tie.Need-add-total
+add-total c = search needs
 
-mul-least : tie.Need-mul-least
-mul-least c = search needs
-
-add-least : tie.Need-add-least
-add-least c = search needs
+add-total-2 : tie.Need-add-total-2
+add-total-2 c = search needs
 
 infos-requires : tie.Need-infos-requires
 infos-requires c κs = search needs
 
-add-encode-linear-ge-mixed-from-info : tie.Need-add-encode-linear-ge-mixed-from-info
-add-encode-linear-ge-mixed-from-info c = search needs
+cast-encode-linear-eq-mixed-from-info : tie.Need-cast-encode-linear-eq-mixed-from-info
+cast-encode-linear-eq-mixed-from-info c = search needs
 
-encode-linear-ge-mixed-from-info-requires : tie.Need-encode-linear-ge-mixed-from-info-requires
-encode-linear-ge-mixed-from-info-requires c κs =
+add-encode-linear-eq-mixed-from-info : tie.Need-add-encode-linear-eq-mixed-from-info
+add-encode-linear-eq-mixed-from-info c = search needs
+
+cast-encode-linear-eq-mixed-from-info-2 : tie.Need-cast-encode-linear-eq-mixed-from-info-2
+cast-encode-linear-eq-mixed-from-info-2 c = search needs
+
+add-encode-linear-eq-mixed-from-info-2 : tie.Need-add-encode-linear-eq-mixed-from-info-2
+add-encode-linear-eq-mixed-from-info-2 c = search needs
+
+encode-linear-eq-mixed-from-info-requires : tie.Need-encode-linear-eq-mixed-from-info-requires
+encode-linear-eq-mixed-from-info-requires c κs =
     let s = c .before .before .before .before .before .before .before .before .before .before .before .before in
-    (c .infos .ensures .1, (omega (arith, s .pre .0), first-fits (s .args .c) (s .pre .0) (s .args .base) (s .pre .1) (s .args .lits .now) (s .args .ends .now) _ (c .infos .ensures .0)))
-
-infos-requires-2 : tie.Need-infos-requires-2
-infos-requires-2 c κs = search needs
-
-add-encode-linear-ge-mixed-from-info-2 : tie.Need-add-encode-linear-ge-mixed-from-info-2
-add-encode-linear-ge-mixed-from-info-2 c = search needs
-
-cast-encode-linear-ge-mixed-from-info : tie.Need-cast-encode-linear-ge-mixed-from-info
-cast-encode-linear-ge-mixed-from-info c = search needs
-
-encode-linear-ge-mixed-from-info-requires-2 : tie.Need-encode-linear-ge-mixed-from-info-requires-2
-encode-linear-ge-mixed-from-info-requires-2 c κs =
-    let s = c .before .before .before .before .before .before .before .before .before .before .before .before .before .before .before .before .before .before .before .before .before in
-    let i = c .before .before .before .before .before .before .before .before .encode-linear-ge-mixed-from-info in (
-      c .before .infos2 .ensures .1,
-      (
-        omega (arith, s .pre .0),
-        second-fits (s .args .c) (s .pre .0) (s .args .base) (s .pre .1) (s .args .lits .now) (s .args .ends .now) _ _ (i .result) _ (c .before .before .before .before .before .before .before .before .before .infos .ensures .0) (i .ensures) _ (c .before .infos2 .ensures .0),
-      ),
-    )
+    let z = s .pre .0 in
+    let i = c .before .before .infos .ensures in
+    let f = column-fits (column-clauses (s .args .c)) (column-size (s .args .c) z (own-long s)) (s .args .base) (s .pre .1) in
+    (i .1, ((omega (arith, z), omega (arith, z)), equated-fits _ _ _ _ _ _ _ _ (i .0) (column-equated (s .args .c) z (own-long s)) f))
 
 same-length : tie.Need-same-length
 same-length c = search needs
@@ -73,32 +65,27 @@ same-length-2 c = search needs
 
 returns : tie.Need-returns
 returns c =
-    let s = c .before .before .before .before .before .before .before .before .before .before .before .before .before .before .before .before .before .before .before .before .before .before .before .before .before .before in
-    let i = c .before .before .before .before .before .before .before .before .before .before .before .before .before .encode-linear-ge-mixed-from-info in
-    let j = c .before .before .before .before .encode-linear-ge-mixed-from-info2 in
-    second (s .args .c) (s .pre .0) (s .args .base) (s .pre .1) (s .args .lits .now) (s .args .ends .now) _ _ (i .result) _ (c .before .before .before .before .before .before .before .before .before .before .before .before .before .before .infos .ensures .0) (i .ensures)
-    _ _ (j .result) _ (c .before .before .before .before .before .before .infos2 .ensures .0) (sym (length-map (s .args .c .own) _) ∙ s .good .1 .1 .0 .1 .1 .0 .1 .0 .1) (j .ensures)
+    let s = c .before .before .before .before .before .before .before .before .before .before .before .before .before .before .before .before .before in
+    let w = c .before .before .before .before .encode-linear-eq-mixed-from-info in
+    equated-added _ _ _ _ _ _ (s .args .base) _ (c .before .before .before .before .before .before .before .infos .ensures .0) (column-equated (s .args .c) (s .pre .0) (own-long s)) (s .args .lits .now) (s .args .ends .now) (w .result) (w .ensures)
 
 pub push-column-spec : {M : Type 1} → statement M
 push-column-spec =
     tie.close
     (tie.spec
-    cast-n
-    cast-most
-    cast-most-2
-    add-most
-    cast-most-3
-    add-most-2
-    cast-least
-    mul-least
-    add-least
+    cast-high
+    cast-high-2
+    add-high
+    cast-total
+    mul-total
+    add-total
+    add-total-2
     infos-requires
-    add-encode-linear-ge-mixed-from-info
-    encode-linear-ge-mixed-from-info-requires
-    infos-requires-2
-    add-encode-linear-ge-mixed-from-info-2
-    cast-encode-linear-ge-mixed-from-info
-    encode-linear-ge-mixed-from-info-requires-2
+    cast-encode-linear-eq-mixed-from-info
+    add-encode-linear-eq-mixed-from-info
+    cast-encode-linear-eq-mixed-from-info-2
+    add-encode-linear-eq-mixed-from-info-2
+    encode-linear-eq-mixed-from-info-requires
     same-length
     same-length-2
     returns)

@@ -5,7 +5,7 @@ use lib.ListN.{length, length-map}
 use borrow.Author.Needs.{needs}
 use Rattle.log_adder2.proofs.add_eq_column.Statement.{statement}
 use Rattle.log_adder2.proofs.add_eq_column.Tie as tie
-use Rattle.log_adder2.proofs.Halves.{lent, wrote-clauses, wrote-lits}
+use Rattle.log_adder2.proofs.EqColumnStored.{lent, wrote}
 
 -- the array of own literals has 12 places
 own-long : (c : tie.Start) → length (c .args .c .own) ≡ 12
@@ -51,13 +51,13 @@ add-t10 : tie.Need-add-t10
 add-t10 c =
     let s = c .before .before .before .before .before .before .before .before .before .before .before .before .before .before in
     let w = c .before .before .before .before .before .before .push-eq-column in
-    omega (arith, s .pre .1, wrote-clauses (s .args .c) (s .pre .0) (s .args .x) (s .args .y) (own-long s) _ _ (s .args .used .lits) _ _ (w .result) (w .ensures))
+    omega (arith, s .pre .1, wrote (s .args .c) (s .pre .0) (s .args .x) (s .args .y) (own-long s) _ _ (s .args .used .lits) _ _ (w .result) (w .ensures) .1)
 
 add-t12 : tie.Need-add-t12
 add-t12 c =
     let s = c .before .before .before .before .before .before .before .before .before .before .before .before .before .before .before .before in
     let w = c .before .before .before .before .before .before .before .before .push-eq-column in
-    omega (arith, s .pre .1, wrote-lits (s .args .c) (s .pre .0) (s .args .x) (s .args .y) (own-long s) _ _ (s .args .used .lits) _ _ (w .result) (w .ensures))
+    omega (arith, s .pre .1, wrote (s .args .c) (s .pre .0) (s .args .x) (s .args .y) (own-long s) _ _ (s .args .used .lits) _ _ (w .result) (w .ensures) .0)
 
 same-length : tie.Need-same-length
 same-length c = search needs

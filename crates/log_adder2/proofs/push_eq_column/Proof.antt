@@ -1,69 +1,57 @@
 -- `log_adder2::push_eq_column` meets its contract.
 use mathlib.Core.Path.{_≡_, sym, _∙_}
-use mathlib.Core.Bool.{true, false}
 use native.Mathlib.Omega.{arith}
 use lib.ListN.{length, length-map}
 use borrow.Author.Needs.{needs}
+use Rattle.log_adder.proofs.ColumnStored.{column-fits, equated-added, equated-fits}
+use Rattle.log_adder.proofs.ColumnTerms.{eq-column-equated, eq-column-size}
+use Rattle.log_adder2.specs.EqState.{eq-column-clauses}
+use Rattle.log_adder2.proofs.EqColumnStored.{two-terms}
 use Rattle.log_adder2.proofs.push_eq_column.Statement.{statement}
 use Rattle.log_adder2.proofs.push_eq_column.Tie as tie
-use Rattle.log_adder2.proofs.Halves.{first-fits, second, second-fits, two-terms}
 
 -- the array of own literals has 12 places
 own-long : (c : tie.Start) → length (c .args .c .own) ≡ 12
 own-long c = sym (length-map (c .args .c .own) _) ∙ c .good .1 .1 .0 .1 .1 .0 .1 .0 .1
 
-cast-n : tie.Need-cast-n
-cast-n c = search needs
+cast-high : tie.Need-cast-high
+cast-high c = search needs
 
-cast-most : tie.Need-cast-most
-cast-most c = search needs
+cast-high-2 : tie.Need-cast-high-2
+cast-high-2 c = search needs
 
-add-most : tie.Need-add-most
-add-most c = search needs
+add-high : tie.Need-add-high
+add-high c = search needs
 
-cast-most-2 : tie.Need-cast-most-2
-cast-most-2 c = search needs
+cast-total : tie.Need-cast-total
+cast-total c = search needs
 
-add-most-2 : tie.Need-add-most-2
-add-most-2 c = search needs
+mul-total : tie.Need-mul-total
+mul-total c = search needs
 
-cast-least : tie.Need-cast-least
-cast-least c = search needs
-
-mul-least : tie.Need-mul-least
-mul-least c = search needs
-
-add-least : tie.Need-add-least
-add-least c = search needs
+add-total : tie.Need-add-total
+add-total c = search needs
 
 infos-requires : tie.Need-infos-requires
 infos-requires c κs = search needs
 
-add-encode-linear-ge-mixed-from-info : tie.Need-add-encode-linear-ge-mixed-from-info
-add-encode-linear-ge-mixed-from-info c = search needs
+cast-encode-linear-eq-mixed-from-info : tie.Need-cast-encode-linear-eq-mixed-from-info
+cast-encode-linear-eq-mixed-from-info c = search needs
 
-encode-linear-ge-mixed-from-info-requires : tie.Need-encode-linear-ge-mixed-from-info-requires
-encode-linear-ge-mixed-from-info-requires c κs =
+add-encode-linear-eq-mixed-from-info : tie.Need-add-encode-linear-eq-mixed-from-info
+add-encode-linear-eq-mixed-from-info c = search needs
+
+add-encode-linear-eq-mixed-from-info-2 : tie.Need-add-encode-linear-eq-mixed-from-info-2
+add-encode-linear-eq-mixed-from-info-2 c = search needs
+
+encode-linear-eq-mixed-from-info-requires : tie.Need-encode-linear-eq-mixed-from-info-requires
+encode-linear-eq-mixed-from-info-requires c κs =
     let s = c .before .before .before .before .before .before .before .before .before .before .before in
-    (c .infos .ensures .1, (omega (arith, s .pre .0), first-fits (s .args .c) (s .pre .0) (s .args .x) (s .args .y) (s .args .base) (s .pre .1) (s .args .lits .now) (s .args .ends .now) _ (two-terms (s .args .c) false _ (s .pre .0) (own-long s) (c .infos .ensures .0))))
-
-infos-requires-2 : tie.Need-infos-requires-2
-infos-requires-2 c κs = search needs
-
-add-encode-linear-ge-mixed-from-info-2 : tie.Need-add-encode-linear-ge-mixed-from-info-2
-add-encode-linear-ge-mixed-from-info-2 c = search needs
-
-encode-linear-ge-mixed-from-info-requires-2 : tie.Need-encode-linear-ge-mixed-from-info-requires-2
-encode-linear-ge-mixed-from-info-requires-2 c κs =
-    let s = c .before .before .before .before .before .before .before .before .before .before .before .before .before .before .before .before .before .before .before in
-    let i = c .before .before .before .before .before .before .before .encode-linear-ge-mixed-from-info in (
-      c .infos2 .ensures .1,
-      (
-        omega (arith, s .pre .0),
-        second-fits (s .args .c) (s .pre .0) (s .args .x) (s .args .y) (s .args .base) (s .pre .1) (s .args .lits .now) (s .args .ends .now) _ _ (i .result) _ (two-terms (s .args .c) false _ (s .pre .0) (own-long s) (c .before .before .before .before .before .before .before .before .infos .ensures .0)) (i .ensures)
-            _ (two-terms (s .args .c) true _ (s .pre .0) (own-long s) (c .infos2 .ensures .0)),
-      ),
-    )
+    let a = s .args in
+    let z = s .pre .0 in
+    let i = c .before .infos .ensures in
+    let f = column-fits (eq-column-clauses (a .c) (a .x) (a .y)) (eq-column-size (a .c) z (own-long s) (a .x) (a .y)) (a .base) (s .pre .1) in
+    (i .1, ((omega (arith, z), omega (arith, z)), equated-fits _ _ _ _ _ _ _ _ (two-terms (a .c) _ z (own-long s) (i .0)) (eq-column-equated (a .c) z (own-long s) (a .x) (a .y)) f))
 
 same-length : tie.Need-same-length
 same-length c = search needs
@@ -73,30 +61,28 @@ same-length-2 c = search needs
 
 returns : tie.Need-returns
 returns c =
-    let s = c .before .before .before .before .before .before .before .before .before .before .before .before .before .before .before .before .before .before .before .before .before .before .before .before in
-    let i = c .before .before .before .before .before .before .before .before .before .before .before .before .encode-linear-ge-mixed-from-info in
-    let j = c .before .before .before .before .encode-linear-ge-mixed-from-info2 in
-    second (s .args .c) (s .pre .0) (s .args .x) (s .args .y) (s .args .base) (s .pre .1) (s .args .lits .now) (s .args .ends .now) _ _ (i .result) _ (two-terms (s .args .c) false _ (s .pre .0) (own-long s) (c .before .before .before .before .before .before .before .before .before .before .before .before .before .infos .ensures .0)) (i .ensures)
-    _ _ (j .result) _ (two-terms (s .args .c) true _ (s .pre .0) (own-long s) (c .before .before .before .before .before .infos2 .ensures .0)) (own-long s) (j .ensures)
+    let s = c .before .before .before .before .before .before .before .before .before .before .before .before .before .before .before .before in
+    let a = s .args in
+    let z = s .pre .0 in
+    let w = c .before .before .before .before .encode-linear-eq-mixed-from-info in
+    equated-added _ _ _ _ _ _ (a .base) _ (two-terms (a .c) _ z (own-long s) (c .before .before .before .before .before .before .infos .ensures .0))
+    (eq-column-equated (a .c) z (own-long s) (a .x) (a .y)) (a .lits .now) (a .ends .now) (w .result) (w .ensures)
 
 pub push-eq-column-spec : {M : Type 1} → statement M
 push-eq-column-spec =
     tie.close
     (tie.spec
-    cast-n
-    cast-most
-    add-most
-    cast-most-2
-    add-most-2
-    cast-least
-    mul-least
-    add-least
+    cast-high
+    cast-high-2
+    add-high
+    cast-total
+    mul-total
+    add-total
     infos-requires
-    add-encode-linear-ge-mixed-from-info
-    encode-linear-ge-mixed-from-info-requires
-    infos-requires-2
-    add-encode-linear-ge-mixed-from-info-2
-    encode-linear-ge-mixed-from-info-requires-2
+    cast-encode-linear-eq-mixed-from-info
+    add-encode-linear-eq-mixed-from-info
+    add-encode-linear-eq-mixed-from-info-2
+    encode-linear-eq-mixed-from-info-requires
     same-length
     same-length-2
     returns)
