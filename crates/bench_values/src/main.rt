@@ -71,7 +71,7 @@ fn end_line(
     let word = whole.word;
     let numbers = whole.numbers;
     let n = numbers.count;
-    if n > nums.len() || !numbers.good {
+    if !numbers.good {
         return Next {
             env,
             good: false,
@@ -88,18 +88,14 @@ fn run(s: &[u8], nums: &mut [i64], lits: &mut [u32], ends: &mut [u32]) {
     let mut at: usize = 0;
     while at < s.len() {
         let fed = lines::feed(nums, lines::line_start(), s, at);
-        let to = fed.at;
         let line = fed.line;
         let next = end_line(line, nums, env, lits, ends);
         if !next.good {
             io::write_all(STDOUT_FILENO, b"bad line\n");
             return;
         }
-        if to == s.len() {
-            return;
-        }
         env = next.env;
-        at = to + 1;
+        at = fed.next;
     }
 }
 

@@ -10,9 +10,9 @@ use lib.IntN.{ℤ, pos, negsuc}
 use lib.ListN.{length, getD, set, take, drop, length-set}
 use lib.Seq.{drop-cons, drop-length, take-length, take-suc, take-suc-set}
 use borrow.Author.Tests.{lt-ltb, le-ltb, lt-leb, le-leb, ltb-false}
-use Rattle.words.specs.Numbers.{signed-of, unsigned-of}
-use Rattle.words.specs.declared.Signed.the-variants as i
-use Rattle.words.specs.declared.Unsigned.the-variants as u
+use Rattle.lines.specs.Fitting.{signed-of, unsigned-of}
+use Rattle.lines.specs.declared.fitting.Signed.the-variants as i
+use Rattle.lines.specs.declared.fitting.Unsigned.the-variants as u
 use Rattle.lines.proofs.Steps.{and-false}
 use Rattle.lines.specs.Fitting.{Listed, all-of, is-i32, is-u8, signed-at, unsigned-at}
 

@@ -1,27 +1,28 @@
 -- One byte more: laws for the code's cases.
-use Prim.Native.Nat.{ℕ, zero, suc, _+_, _≤_, _<_}
+use Prim.Native.Nat.{ℕ, zero, suc, _+_, _-_, _≤_, _<_}
 use native.Mathlib.Omega.{arith}
-use mathlib.Core.Path.{_≡_, refl, sym, ap, _∙_}
-use mathlib.Core.Bool.{Bool, true, false, not, _&&_, true≢false}
+use mathlib.Core.Path.{_≡_, refl, sym, ap, subst, _∙_}
+use mathlib.Core.Bool.{Bool, true, false, not, _&&_, cond, true≢false}
 use lib.IntN.{ℤ, pos, negℤ, _-ℤ_}
-use lib.ListN.{length, getD}
+use lib.ListN.{length, drop, getD, length-drop, length-set}
+use lib.Seq.{take-suc, getD-drop}
 use mathlib.Core.List.{List, [], _∷_, _++_}
 use native.Mathlib.Numerals.{add-one}
-use lib.Dec.{leb, eqb}
+use lib.Dec.{leb, ltb, eqb}
 use mir.Syntax.{w64}
 use mir.Val.{toZ, ofZ}
 use mir.ValLaws.{toZ-ofZ}
-use borrow.Author.Tests.{lt-ltb, le-ltb, lt-leb, le-leb, leb-true, eq-eqb, ne-eqb, eqb-true, eqb-false}
-use Rattle.words.specs.Numbers.{is-digit, part}
-use Rattle.words.proofs.Laws.{part-none, part-last}
-use Rattle.words.proofs.Signs.{as-i64, negated, negated-fits}
+use borrow.Author.Tests.{lt-ltb, le-ltb, ltb-true, lt-leb, le-leb, leb-true, eq-eqb, ne-eqb, eqb-true, eqb-false}
+use Rattle.lines.specs.Integers.{is-digit}
+use Rattle.lines.proofs.Signs.{as-i64, negated, negated-fits}
 use Rattle.lines.specs.Numerals.{numeral-more, numeral-integer, with-digit, with-other}
-use Rattle.lines.specs.Lines.{Feeding, Lined, Numbered, is-empty, line-from, line-more, line-whole, lined, number-more, number-whole, numbered, one-line, same-below, spoiled, stored, with-numbers, word-more}
+use Rattle.lines.specs.Lines.{Feeding, Lined, Numbered, Within, is-empty, keep, line-from, line-more, line-whole, lined, none-kept, number-more, number-whole, numbered, one-line, part, same-below, spoiled, stored, with-numbers, word-more}
 use Rattle.lines.specs.declared.Line.{Line}
 use Rattle.lines.specs.declared.Numbers.{Numbers}
 use Rattle.lines.specs.declared.Word.{Word}
 use Rattle.lines.specs.declared.Numeral.{Numeral}
 use Rattle.lines.specs.declared.Numeral.the-variants.{Empty, Minus, Positive, Negative, Other}
+use Rattle.lines.specs.declared.Integer.{Integer}
 use Rattle.lines.specs.declared.Integer.the-variants.{Value, Outside}
 
 pub and-left : (a b : Bool) → (a && b) ≡ true → a ≡ true
@@ -156,9 +157,32 @@ pub whole-behind : (k : Lined) {xs : List ℤ} {n : Numbers} → k .line .behind
 unfolding line-whole
 whole-behind k e q = rw e (ap (with-numbers (k .line .word)) q)
 
-pub whole-word : (k : Lined) → k .line .behind ≡ false → k ≡ line-whole k
+pub whole-word : (k : Lined) {n : Numbers} → k .line .behind ≡ false → n ≡ none-kept (k .line .numbers)
+    → lined (k .nums) (record { word = k .line .word; behind = false; numbers = n }) ≡ line-whole k
 unfolding line-whole
-whole-word k e = rw e
+whole-word k e q = rw (e, q)
+
+kept-within : (i : Integer) (g : Numbered) → keep i g .numbers .good ≡ true → keep i g .numbers .count ≤ length (keep i g .nums)
+kept-within (Value z) g e = by (ltb (g .numbers .count) (length (g .nums))) refl e
+  where
+    by : (t : Bool) → ltb (g .numbers .count) (length (g .nums)) ≡ t → cond t (stored z g) (spoiled g) .numbers .good ≡ true
+        → cond t (stored z g) (spoiled g) .numbers .count ≤ length (cond t (stored z g) (spoiled g) .nums)
+    by true h q = let l = ltb-true (g .numbers .count) (length (g .nums)) h in rw (length-set (g .nums) (g .numbers .count) z) (omega arith)
+    by false h q = absurd (true≢false (sym q))
+kept-within Outside g e = absurd (true≢false (sym e))
+
+whole-within : (k : Lined) → Within (line-whole k)
+unfolding line-whole number-whole
+whole-within k = by (k .line .behind)
+  where
+    by : (t : Bool) → Within (cond t
+        (with-numbers (k .line .word) (number-whole (numbered (k .nums) (k .line .numbers))))
+        (lined (k .nums) (record { word = k .line .word; behind = false; numbers = none-kept (k .line .numbers) })))
+    by true = kept-within (numeral-integer (k .line .numbers .numeral)) (numbered (k .nums) (k .line .numbers))
+    by false = λ e. omega arith
+
+pub whole-ends : (k : Lined) {m : Lined} → m ≡ line-whole k → (m ≡ line-whole k) × Within m
+whole-ends k e = (e, subst Within (sym e) (whole-within k))
 
 pub empty-not : (l : Line) → l .behind ≡ true → false ≡ is-empty l
 empty-not l e = rw e
@@ -167,6 +191,16 @@ pub empty-word : (l : Line) → l .behind ≡ false → eqb (l .word .len) 0 ≡
 empty-word l e = rw e
 
 -- Bytes of a line ------------------------------------------------------------------------------------------------------
+
+part-none : (s : List ℕ) (a : ℕ) → part s a a ≡ []
+part-none s a = let e : a - a ≡ 0 = omega arith in rw e
+
+part-last : (s : List ℕ) (a i : ℕ) → a ≤ i → i < length s → part s a (i + 1) ≡ part s a i ++ (getD s i 0 ∷ [])
+part-last s a i h k =
+    let e : i + 1 - a ≡ suc (i - a) = omega arith in
+    let f : a + (i - a) ≡ i = omega arith in
+    let l : i - a < length (drop a s) = rw length-drop (omega arith) in
+    rw (e, take-suc (drop a s) (i - a) 0 l, getD-drop, f)
 
 from-last : (k : Lined) (bs : List ℕ) (b : ℕ) → line-from k (bs ++ (b ∷ [])) ≡ line-more (line-from k bs) b
 unfolding line-from

@@ -8,7 +8,7 @@ use lib.Dec.{leb, eqb}
 use lib.IntN.{pos, negℤ}
 use borrow.Author.Tests.{lt-leb, le-leb, leb-true, leb-false, eqb-true, eqb-false}
 use Rattle.text.specs.Decimal.{digits-value}
-use Rattle.words.specs.Numbers.{all-digits, in-range, integer-value, is-digit, is-integer, some-digits}
+use Rattle.lines.specs.Integers.{all-digits, in-range, integer-value, is-digit, is-integer, some-digits}
 use Rattle.lines.specs.declared.Integer.the-variants.{Value, Outside}
 use Rattle.lines.specs.declared.Numeral.{Numeral}
 use Rattle.lines.specs.declared.Numeral.the-variants.{Empty, Minus, Positive, Negative, Other}

@@ -6,11 +6,19 @@ use mathlib.Core.List.{List, [], _∷_, map}
 use lib.Dec.{leb, ltb}
 use lib.IntN.{ℤ, pos, negsuc}
 use lib.ListN.{length, getD, take}
-use Rattle.words.specs.Numbers.{unsigned-of, signed-of}
-use Rattle.words.specs.declared.Unsigned.{Unsigned}
-use Rattle.words.specs.declared.Unsigned.the-variants as u
-use Rattle.words.specs.declared.Signed.{Signed}
-use Rattle.words.specs.declared.Signed.the-variants as i
+use Rattle.lines.specs.declared.fitting.Unsigned.{Unsigned}
+use Rattle.lines.specs.declared.fitting.Unsigned.the-variants as u
+use Rattle.lines.specs.declared.fitting.Signed.{Signed}
+use Rattle.lines.specs.declared.fitting.Signed.the-variants as i
+
+-- z as a u32, and as an i32
+unfoldable pub unsigned-of : ℤ → Unsigned
+unsigned-of (pos n) = cond (ltb n 4294967296) (u.Value n) u.Outside
+unsigned-of (negsuc n) = u.Outside
+
+unfoldable pub signed-of : ℤ → Signed
+signed-of (pos n) = cond (ltb n 2147483648) (i.Value (pos n)) i.Outside
+signed-of (negsuc n) = cond (ltb n 2147483648) (i.Value (negsuc n)) i.Outside
 
 -- number k of a line, if the line has it and it fits
 abbrev pub unsigned-at : List ℤ → ℕ → Unsigned

@@ -1,3 +1,4 @@
+pub mod Integers
 pub mod Numerals
 pub mod Lines
 pub mod Fitting

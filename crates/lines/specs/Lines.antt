@@ -1,19 +1,18 @@
 -- A line read byte after byte: its word, and its integers in a lent slice.
-use Prim.Native.Nat.{ℕ, zero, suc, _+_, _≤_}
+use Prim.Native.Nat.{ℕ, zero, suc, _+_, _-_, _≤_, min}
 use mathlib.Core.Path.{_≡_}
 use mathlib.Core.Bool.{Bool, true, false, not, _&&_, cond}
 use mathlib.Core.Logic.{_⊎_}
 use mathlib.Core.List.{List, [], _∷_}
 use lib.Dec.{leb, ltb, eqb}
 use lib.IntN.{ℤ}
-use lib.ListN.{length, set, getD, replicate}
+use lib.ListN.{length, set, getD, replicate, take, drop}
 use Rattle.lines.specs.declared.Integer.{Integer}
 use Rattle.lines.specs.declared.Integer.the-variants.{Value, Outside}
 use Rattle.lines.specs.declared.Numeral.the-variants.{Empty}
 use Rattle.lines.specs.declared.Word.{Word}
 use Rattle.lines.specs.declared.Numbers.{Numbers}
 use Rattle.lines.specs.declared.Line.{Line}
-use Rattle.words.specs.Numbers.{part}
 use Rattle.lines.specs.Numerals.{numeral-more, numeral-integer}
 
 -- the word with a byte behind it
@@ -42,6 +41,9 @@ numbered nums n = record { nums = nums; numbers = n }
 
 abbrev pub spoiled : Numbered → Numbered
 spoiled g = numbered (g .nums) (record { count = g .numbers .count; good = false; numeral = g .numbers .numeral })
+
+abbrev pub none-kept : Numbers → Numbers
+none-kept n = record { count = 0; good = n .good; numeral = n .numeral }
 
 abbrev pub stored : ℤ → Numbered → Numbered
 stored z g =
@@ -93,9 +95,16 @@ line-more k b =
     (with-numbers (k .line .word) (numbered (k .nums) (k .line .numbers)))
     (lined (k .nums) (record { word = word-more (k .line .word) b; behind = false; numbers = k .line .numbers })))
 
--- the line ends
+-- the line ends; with no space behind its word it has no integer
 unfoldable pub line-whole : Lined → Lined
-line-whole k = cond (k .line .behind) (with-numbers (k .line .word) (number-whole (numbered (k .nums) (k .line .numbers)))) k
+line-whole k =
+    cond (k .line .behind)
+    (with-numbers (k .line .word) (number-whole (numbered (k .nums) (k .line .numbers))))
+    (lined (k .nums) (record { word = k .line .word; behind = false; numbers = none-kept (k .line .numbers) }))
+
+-- the integers of a line that can be read lie within the slice
+abbrev pub Within : Lined → Type 0
+Within k = k .line .numbers .good ≡ true → k .line .numbers .count ≤ length (k .nums)
 
 -- a line with all these bytes behind it
 unfoldable pub line-from : Lined → List ℕ → Lined
@@ -107,6 +116,10 @@ unfoldable pub one-line : List ℕ → Bool
 one-line [] = true
 one-line (b ∷ bs) = not (eqb b 10) && one-line bs
 
+-- the bytes of s from a up to e
+abbrev pub part : List ℕ → ℕ → ℕ → List ℕ
+part s a e = take (e - a) (drop a s)
+
 -- the bytes of s from a up to e have no line feed, and the line with them behind it is `after`
 pub record Feeding (s : List ℕ) (a e : ℕ) (before after : Lined) : Type 0 where
   pub from : a ≤ e
@@ -114,7 +127,8 @@ pub record Feeding (s : List ℕ) (a e : ℕ) (before after : Lined) : Type 0 wh
   pub one : one-line (part s a e) ≡ true
   pub is : after ≡ line-from before (part s a e)
 
--- and a line feed stands at e, unless s ends there
-pub record FedBy (s : List ℕ) (a e : ℕ) (before after : Lined) : Type 0 where
+-- and a line feed stands at e, unless s ends there; what follows is from n on
+pub record FedBy (s : List ℕ) (a e n : ℕ) (before after : Lined) : Type 0 where
   pub fed : Feeding s a e before after
   pub ends : (e ≡ length s) ⊎ (getD s e 0 ≡ 10)
+  pub next : n ≡ min (e + 1) (length s)

@@ -4,7 +4,7 @@ use mathlib.Core.Bool.{_&&_, cond}
 use mathlib.Core.List.{List, [], _∷_}
 use lib.Dec.{leb, eqb}
 use lib.IntN.{pos, negℤ}
-use Rattle.words.specs.Numbers.{is-digit, is-integer, integer-value, in-range}
+use Rattle.lines.specs.Integers.{is-digit, is-integer, integer-value, in-range}
 use Rattle.lines.specs.declared.Numeral.{Numeral}
 use Rattle.lines.specs.declared.Numeral.the-variants.{Empty, Minus, Positive, Negative, Other}
 use Rattle.lines.specs.declared.Integer.{Integer}

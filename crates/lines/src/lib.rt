@@ -1,6 +1,8 @@
 // A reader of scripts that is handed its bytes in parts of any length. A line is a word and decimal integers, each behind one space.
 mod fitting;
 
+pub use fitting::Signed;
+pub use fitting::Unsigned;
 pub use fitting::byte_list;
 pub use fitting::signed_at;
 pub use fitting::signed_list;
@@ -9,9 +11,9 @@ ghost use mathlib.Core.Path.{_≡_};
 ghost use mathlib.Core.Bool.{true, false};
 ghost use Prim.Native.Nat.{_≤_};
 ghost use lib.ListN.{length};
-ghost use Rattle.words.specs.Numbers.{is-digit};
+ghost use Rattle.lines.specs.Integers.{is-digit};
 ghost use Rattle.lines.specs.Numerals.{grown, numeral-more, numeral-integer};
-ghost use Rattle.lines.specs.Lines.{FedBy, is-empty, is-word, line-more, line-start, line-whole, lined, number-more, number-whole, numbered, word-more};
+ghost use Rattle.lines.specs.Lines.{FedBy, Within, is-empty, is-word, line-more, line-start, line-whole, lined, none-kept, number-more, number-whole, numbered, word-more};
 
 // What the bytes of a token say so far.
 pub enum Numeral {
@@ -186,6 +188,18 @@ fn spoiled(n: Numbers) -> Numbers
     }
 }
 
+// No integer is kept.
+fn none_kept(n: Numbers) -> Numbers
+    ensures { λ r. ⌜ r ≡ none-kept n ⌝ }
+{
+    let numeral = n.numeral;
+    Numbers {
+        count: 0,
+        good: n.good,
+        numeral,
+    }
+}
+
 // The token ends: its integer is kept.
 fn number_whole(nums: &mut [i64], n: Numbers) -> Numbers
     ensures { λ r. ⌜ numbered (now (nums .exit)) r ≡ number-whole (numbered (now (nums .entry)) n) ⌝ }
@@ -289,15 +303,20 @@ pub fn line_more(nums: &mut [i64], line: Line, b: u8) -> Line
     }
 }
 
-// The line ends: its last integer is kept.
+// The line ends: its last integer is kept. With no space behind its word it has none.
 pub fn line_whole(nums: &mut [i64], line: Line) -> Line
-    ensures { λ r. ⌜ lined (now (nums .exit)) r ≡ line-whole (lined (now (nums .entry)) line) ⌝ }
+    ensures is { λ r. ⌜ lined (now (nums .exit)) r ≡ line-whole (lined (now (nums .entry)) line) ⌝ }
+    ensures within { λ r. ⌜ Within (lined (now (nums .exit)) r) ⌝ }
 {
-    if !line.behind {
-        return line;
-    }
     let word = line.word;
     let numbers = line.numbers;
+    if !line.behind {
+        return Line {
+            word,
+            behind: false,
+            numbers: none_kept(numbers),
+        };
+    }
     let all = number_whole(nums, numbers);
     Line {
         word,
@@ -306,16 +325,19 @@ pub fn line_whole(nums: &mut [i64], line: Line) -> Line
     }
 }
 
-// A line so far, and the place of the line feed that ends it, or of the end of the bytes at hand.
+// A line so far.
 pub struct Fed {
     pub line: Line,
+    // the place of the line feed that ends it, or of the end of the bytes at hand
     pub at: usize,
+    // the place behind the line feed, or the end again
+    pub next: usize,
 }
 
 // A line with the bytes of `s` from `from` on, up to a line feed or the end.
 pub fn feed(nums: &mut [i64], line: Line, s: &[u8], from: usize) -> Fed
     requires { ⌜ from ≤ length (now s) ⌝ }
-    ensures { λ r. ⌜ FedBy (now (s .entry)) from (r .at) (lined (now (nums .entry)) line) (lined (now (nums .exit)) (r .line)) ⌝ }
+    ensures { λ r. ⌜ FedBy (now (s .entry)) from (r .at) (r .next) (lined (now (nums .entry)) line) (lined (now (nums .exit)) (r .line)) ⌝ }
 {
     let mut now_line = line;
     let mut i = from;
@@ -325,6 +347,7 @@ pub fn feed(nums: &mut [i64], line: Line, s: &[u8], from: usize) -> Fed
             return Fed {
                 line: now_line,
                 at: i,
+                next: i + 1,
             };
         }
         let next = line_more(nums, now_line, b);
@@ -334,5 +357,6 @@ pub fn feed(nums: &mut [i64], line: Line, s: &[u8], from: usize) -> Fed
     Fed {
         line: now_line,
         at: i,
+        next: i,
     }
 }

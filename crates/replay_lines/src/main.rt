@@ -22,13 +22,9 @@ fn run_lines(s: &[u8], nums: &mut [i64], lits: &mut [u32], ends: &mut [u32])
     let mut at: usize = 0;
     while at < s.len() {
         let fed = lines::feed(nums, lines::line_start(), s, at);
-        let to = fed.at;
         let line = fed.line;
         run_line(line, nums, lits, ends);
-        if to == s.len() {
-            return;
-        }
-        at = to + 1;
+        at = fed.next;
     }
 }
 

@@ -3,10 +3,10 @@ use encoder::Answer;
 use encoder::encode_linear;
 use encoder::encode_mul;
 use encoder_env::EncoderEnv;
+use lines::Signed;
+use lines::Unsigned;
 use lines::Word;
 use sat::Lit;
-use words::Signed;
-use words::Unsigned;
 
 // The job after a line, whether the line could be read, and what a call answered.
 pub struct Next {

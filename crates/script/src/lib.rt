@@ -15,10 +15,10 @@ pub use calls::Next;
 pub use calls::call;
 use encoder_env::EncoderEnv;
 use lines::Line;
+use lines::Unsigned;
 use lines::Word;
 pub use rules::product_of;
 pub use rules::sum_of;
-use words::Unsigned;
 ghost use mathlib.Core.Path.{_≡_};
 ghost use Prim.Native.Nat.{_≤_};
 ghost use lib.ListN.{length};
@@ -167,9 +167,6 @@ fn end_line(line: Line, nums: &mut [i64], run: Run, lits: &mut [u32], ends: &mut
     let word = whole.word;
     let numbers = whole.numbers;
     let n = numbers.count;
-    if n > nums.len() {
-        return stopped(counted);
-    }
     if !numbers.good {
         return stopped(counted);
     }
@@ -206,7 +203,7 @@ pub fn run_part(s: &[u8], part: Part, nums: &mut [i64], lits: &mut [u32], ends: 
         if !run.good {
             return Part { line, run };
         }
-        at = to + 1;
+        at = fed.next;
     }
     Part { line, run }
 }

@@ -1,8 +1,8 @@
 // The integers of a line that adds a rule.
 ghost use Prim.Native.Nat.{_≤_};
 ghost use lib.ListN.{length};
-use words::Signed;
-use words::Unsigned;
+use lines::Signed;
+use lines::Unsigned;
 
 // A sum: its terms are the first `count` entries of a list.
 pub struct Sum {

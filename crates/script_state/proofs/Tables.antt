@@ -11,8 +11,8 @@ use lib.ListN.{length, set, take, drop, replicate, length-set}
 use lib.Seq.{drop-length, take-length, take-suc-set}
 use borrow.Author.Fill.{fill-more}
 use borrow.Author.Tests.{le-leb, lt-leb, eq-eqb, ne-eqb}
-use Rattle.words.specs.declared.Signed.{Signed}
-use Rattle.words.specs.declared.Unsigned.{Unsigned}
+use Rattle.lines.specs.declared.fitting.Signed.{Signed}
+use Rattle.lines.specs.declared.fitting.Unsigned.{Unsigned}
 use Rattle.lines.specs.Fitting.{signed-at, unsigned-at}
 use Rattle.encoder_env.specs.declared.EncoderEnv.{EncoderEnv}
 use Rattle.encoder_env.specs.WellFormed.{all-below}

@@ -6,10 +6,10 @@ use mathlib.Core.List.{List, [], _∷_, _++_}
 use lib.Dec.{leb, ltb, eqb}
 use lib.IntN.{ℤ, pos}
 use lib.ListN.{length}
-use Rattle.words.specs.declared.Signed.{Signed}
-use Rattle.words.specs.declared.Signed.the-variants as i
-use Rattle.words.specs.declared.Unsigned.{Unsigned}
-use Rattle.words.specs.declared.Unsigned.the-variants as u
+use Rattle.lines.specs.declared.fitting.Signed.{Signed}
+use Rattle.lines.specs.declared.fitting.Signed.the-variants as i
+use Rattle.lines.specs.declared.fitting.Unsigned.{Unsigned}
+use Rattle.lines.specs.declared.fitting.Unsigned.the-variants as u
 use Rattle.lines.specs.Fitting.{signed-at, unsigned-at}
 use Rattle.sat.specs.declared.Lit.{Lit}
 use Rattle.log_var.specs.declared.LogEncoding.{LogEncoding}

@@ -5,10 +5,10 @@ ghost use Prim.Native.Nat.{_<_};
 ghost use lib.ListN.{length, replicate};
 ghost use Rattle.script_state.specs.Job.{fits, is-job, job-of, lits-from, record-from, records-from, signed-or-0, signed-place, unsigned-or-0};
 use encoder_env::EncoderEnv;
+use lines::Signed;
+use lines::Unsigned;
 use log_var::LogEncoding;
 use sat::Lit;
-use words::Signed;
-use words::Unsigned;
 
 // Number i, or 0 where it does not fit a u32.
 fn unsigned_or_0(nums: &[i64], i: usize) -> u32

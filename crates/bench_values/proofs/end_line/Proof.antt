@@ -1,6 +1,7 @@
 -- `bench_values::end_line` meets its contract.
 use lib.Seq.{length-take-le}
 use mathlib.Core.Path.{sym}
+use borrow.Author.Tests.{not-false}
 use borrow.Author.Needs.{needs}
 use Rattle.bench_values.proofs.end_line.Statement.{statement}
 use Rattle.bench_values.proofs.end_line.Tie as tie
@@ -15,10 +16,10 @@ returns : tie.Need-returns
 returns c = search needs
 
 slice-reshare-prefix-answer : tie.Need-slice-reshare-prefix-answer
-slice-reshare-prefix-answer c = search needs
+slice-reshare-prefix-answer c = c .before .before .before .before .before .line-whole .ensures .1 (not-false _ (c .if1 .left))
 
 slice-aggregate-answer : tie.Need-slice-aggregate-answer
-slice-aggregate-answer c = sym (length-take-le _ _ (c .before .before .before .if1 .left))
+slice-aggregate-answer c = sym (length-take-le _ _ (slice-reshare-prefix-answer (c .before)))
 
 answer-requires : tie.Need-answer-requires
 answer-requires c κs = search needs

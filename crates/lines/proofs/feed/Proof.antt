@@ -22,11 +22,14 @@ loop-holds c = (search needs, feeding-none _ _ _ (c .before .pre))
 shared-slice-read-b : tie.Need-shared-slice-read-b Inv-loop μ-loop
 shared-slice-read-b c = search needs
 
+add-t13 : tie.Need-add-t13 Inv-loop μ-loop
+add-t13 c = search needs
+
 same-length : tie.Need-same-length Inv-loop μ-loop
 same-length c = search needs
 
 returns : tie.Need-returns Inv-loop μ-loop
-returns c = record { fed = c .before .before .before .loop .inv .1; ends = inr (c .if1 .taken) }
+returns c = record { fed = c .before .before .before .loop .inv .1; ends = inr (c .if1 .taken); next = search needs }
 
 line-more-requires : tie.Need-line-more-requires Inv-loop μ-loop
 line-more-requires c κs = search needs
@@ -44,7 +47,7 @@ same-length-2 : tie.Need-same-length-2 Inv-loop μ-loop
 same-length-2 c = search needs
 
 returns-2 : tie.Need-returns-2 Inv-loop μ-loop
-returns-2 c = record { fed = c .before .loop .inv .1; ends = inl (omega (arith, c .before .loop .inv .1 .within, c .loop-test .left)) }
+returns-2 c = record { fed = c .before .loop .inv .1; ends = inl (omega (arith, c .before .loop .inv .1 .within, c .loop-test .left)); next = omega (arith, c .before .loop .inv .1 .within) }
 
 pub feed-spec : {M : Type 1} → statement M
 feed-spec =
@@ -54,6 +57,7 @@ feed-spec =
     μ-loop
     loop-holds
     shared-slice-read-b
+    add-t13
     same-length
     returns
     line-more-requires

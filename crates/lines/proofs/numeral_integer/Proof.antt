@@ -2,7 +2,7 @@
 use Rattle.lines.proofs.Steps.{integer-large, integer-low, integer-positive, integer-negative}
 use Rattle.lines.specs.Numerals.{numeral-integer}
 use mathlib.Core.Path.{sym, ap, _∙_}
-use Rattle.words.proofs.Signs.{negated, negated-fits}
+use Rattle.lines.proofs.Signs.{negated, negated-fits}
 use borrow.Author.Needs.{needs}
 use Rattle.lines.proofs.numeral_integer.Statement.{statement}
 use Rattle.lines.proofs.numeral_integer.Tie as tie

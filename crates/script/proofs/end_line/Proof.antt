@@ -1,6 +1,7 @@
 -- `script::end_line` meets its contract.
 use lib.Seq.{length-take-le}
 use mathlib.Core.Path.{sym}
+use borrow.Author.Tests.{not-false}
 use borrow.Author.Needs.{needs}
 use Rattle.script.proofs.end_line.Statement.{statement}
 use Rattle.script.proofs.end_line.Tie as tie
@@ -26,23 +27,17 @@ same-length c = search needs
 returns-2 : tie.Need-returns-2
 returns-2 c = search needs
 
-stopped-requires-2 : tie.Need-stopped-requires-2
-stopped-requires-2 c κs = search needs
-
-same-length-2 : tie.Need-same-length-2
-same-length-2 c = search needs
-
-returns-3 : tie.Need-returns-3
-returns-3 c = search needs
-
 slice-reshare-prefix-answer : tie.Need-slice-reshare-prefix-answer
-slice-reshare-prefix-answer c = search needs
+slice-reshare-prefix-answer c = c .before .before .before .before .before .line-whole .ensures .1 (not-false _ (c .if2 .left))
 
 slice-aggregate-answer : tie.Need-slice-aggregate-answer
-slice-aggregate-answer c = sym (length-take-le _ _ (c .before .before .before .if2 .left))
+slice-aggregate-answer c = sym (length-take-le _ _ (slice-reshare-prefix-answer (c .before)))
 
 answer-requires : tie.Need-answer-requires
 answer-requires c κs = search needs
+
+same-length-2 : tie.Need-same-length-2
+same-length-2 c = search needs
 
 same-length-3 : tie.Need-same-length-3
 same-length-3 c = search needs
@@ -50,11 +45,8 @@ same-length-3 c = search needs
 same-length-4 : tie.Need-same-length-4
 same-length-4 c = search needs
 
-same-length-5 : tie.Need-same-length-5
-same-length-5 c = search needs
-
-returns-4 : tie.Need-returns-4
-returns-4 c = search needs
+returns-3 : tie.Need-returns-3
+returns-3 c = search needs
 
 pub end-line-spec : {M : Type 1} → statement M
 end-line-spec =
@@ -67,13 +59,10 @@ end-line-spec =
     stopped-requires
     same-length
     returns-2
-    stopped-requires-2
-    same-length-2
-    returns-3
     slice-reshare-prefix-answer
     slice-aggregate-answer
     answer-requires
+    same-length-2
     same-length-3
     same-length-4
-    same-length-5
-    returns-4)
+    returns-3)

@@ -50,11 +50,10 @@ same-length-6 c = omega (arith, c .before .before .before .before .before .befor
 returns-2 : tie.Need-returns-2 Inv-loop μ-loop
 returns-2 c = search needs
 
-add-at : tie.Need-add-at Inv-loop μ-loop
-add-at c = omega (arith, c .before .before .before .before .before .before .before .before .before .before .before .before .before .before .before .feed .ensures .fed .from, c .before .before .before .before .before .before .before .before .before .before .before .before .before .before .before .feed .ensures .fed .within, c .before .before .before .before .before .before .before .before .before .before .before .before .if1 .left, c .before .before .before .before .before .before .before .before .before .before .before .before .before .before .before .before .before .before .before .before .before .before .before .before .good .0 .0)
-
 loop-less : tie.Need-loop-less Inv-loop μ-loop
-loop-less c = omega (arith, c .before .before .before .before .before .before .before .before .before .before .before .before .before .before .before .feed .ensures .fed .from, c .before .before .before .before .before .before .before .before .before .before .before .before .before .before .before .feed .ensures .fed .within, c .before .before .before .before .before .before .before .before .before .before .before .before .if1 .left, c .before .before .before .before .before .before .before .before .before .before .before .before .before .before .before .before .before .loop-test .taken)
+loop-less c =
+    let b = c .before .before .before .before .before .before .before .before .before .before .before .before .before .before .before in
+    omega (arith, b .feed .ensures .fed .from, b .feed .ensures .next, b .before .before .loop-test .taken)
 
 loop-again : tie.Need-loop-again Inv-loop μ-loop
 loop-again c = (omega (arith, c .before .before .before .before .before .before .before .before .before .before .before .before .before .before .before .before .before .before .loop .inv .0, c .before .before .before .before .before .before .before .before .end-line .kept), omega (arith, c .before .before .before .before .before .before .before .before .before .before .before .before .before .before .before .before .before .before .loop .inv .1, c .before .before .before .before .before .before .before .before .end-line .kept), omega (arith, c .before .before .before .before .before .before .before .before .before .before .before .before .before .before .before .before .before .before .loop .inv .2, c .before .before .before .before .before .before .before .before .before .before .before .before .before .before .before .feed .kept, c .before .before .before .before .before .before .before .before .end-line .kept), c .before .before .before .before .before .before .before .before .end-line .ensures)
@@ -89,7 +88,6 @@ run-part-spec =
     same-length-5
     same-length-6
     returns-2
-    add-at
     loop-less
     loop-again
     same-length-7

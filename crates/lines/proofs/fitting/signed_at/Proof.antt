@@ -1,5 +1,5 @@
 -- `lines::fitting::signed_at` meets its contract.
-use Rattle.words.specs.Numbers.{signed-of}
+use Rattle.lines.specs.Fitting.{signed-of}
 use mathlib.Core.Path.{ap, _∙_}
 use mir.ValLaws.{toZ-ofZ}
 use mir.Syntax.{w64}

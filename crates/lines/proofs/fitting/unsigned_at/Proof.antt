@@ -1,5 +1,5 @@
 -- `lines::fitting::unsigned_at` meets its contract.
-use Rattle.words.specs.Numbers.{unsigned-of}
+use Rattle.lines.specs.Fitting.{unsigned-of}
 use mathlib.Core.Path.{ap, _∙_}
 use mir.ValLaws.{toZ-ofZ}
 use mir.Syntax.{w64}
