@@ -21,7 +21,7 @@ pub record RowRead (at : ℕ) (r : Row) : Type 0 where
   pub len : r .len ≤ 12
   pub coef : r .coef < 4096
   pub onward : at < r .end
-  pub within : r .end ≤ 512
+  pub within : r .end ≤ 511
 
 -- columns with counts of at most m
 pub record Gathered (m : ℕ) (cols : List (List Lit)) (counts : List ℕ) : Type 0 where

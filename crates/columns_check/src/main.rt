@@ -7,8 +7,10 @@
 mod print; // print.rt: what is printed
 
 use clause_set::Counts;
-use clause_set::entry;
 use libc::STDIN_FILENO;
+use lines::Line;
+use lines::Unsigned;
+use lines::Word;
 use log_adder::AdderInput;
 use log_adder::AdderState;
 use log_adder2::EqInput;
@@ -17,9 +19,6 @@ use print::show;
 use print::show_clauses;
 use print::show_number;
 use sat::Lit;
-use words::Cursor;
-use words::Token;
-use words::Unsigned;
 ghost use mathlib.Core.Path.{_≡_};
 ghost use Prim.Native.Nat.{_+_, _≤_, _<_};
 ghost use lib.ListN.{length, replicate};
@@ -27,80 +26,21 @@ ghost use Rattle.log_adder.specs.ColumnInfo.{AllLow};
 ghost use Rattle.mixed.specs.Infos.{Small};
 ghost use Rattle.columns_check.specs.Input.{Gathered, RowRead, TermsRead};
 
-// Number i of a line, or 0 past the end. Greater ones are refused where the line is read.
-fn number(nums: &[u32], i: usize) -> u32
+// Number i of a line, or 0 past the end. Negative and greater ones are refused where the line is read.
+fn number(nums: &[i64], i: usize) -> u32
     ensures { λ r. ⌜ r ≤ 1073741824 ⌝ }
 {
-    let x = entry(nums, i);
+    let Unsigned::Value(x) = lines::unsigned_at(nums, i) else {
+        return 0;
+    };
     if x <= 1073741824 { x } else { 0 }
 }
 
-// Reading a line ---------------------------------------------------------------------------------------------------------
-
-// The next number of a line: whether there is one, and whether the line can be read so far.
-struct Next {
-    value: u32,
-    at: usize,
-    more: bool,
-    good: bool,
-}
-
-// The line ends here, or cannot be read.
-fn no_more(good: bool) -> Next {
-    Next {
-        value: 0,
-        at: 0,
-        more: false,
-        good,
-    }
-}
-
-fn next_number(s: &[u8], at: usize) -> Next {
-    let t = words::read(s, Cursor { at });
-    match t {
-        Token::Number { value, next } => {
-            let Unsigned::Value(x) = words::as_u32(value) else {
-                return no_more(false);
-            };
-            Next {
-                value: x,
-                at: next.at,
-                more: x <= 1073741824,
-                good: x <= 1073741824,
-            }
-        }
-        Token::End => no_more(true),
-        _ => no_more(false),
-    }
-}
-
-// The numbers of a line from `start` on: how many, or 513 where the line cannot be read or the numbers fill the slice.
-fn numbers(s: &[u8], start: usize, nums: &mut [u32]) -> usize {
-    let mut at = start;
-    let mut n: usize = 0;
-    while n < nums.len() {
-        let t = next_number(s, at);
-        if !t.more {
-            return if t.good { n } else { 513 };
-        }
-        nums[n] = t.value;
-        at = t.at;
-        n += 1;
-    }
-    513
-}
-
-// Whether the first `end` bytes are this word.
-fn is_word(s: &[u8], end: usize, word: &[u8]) -> bool {
-    if end != word.len() {
-        return false;
-    }
-    if end > s.len() {
-        return false;
-    }
+// Whether each number of a line is from 0 to 2 ^ 30.
+fn all_small(nums: &[i64]) -> bool {
     let mut i: usize = 0;
-    while i < end {
-        if s[i] != word[i] {
+    while i < nums.len() {
+        if nums[i] < 0 || nums[i] > 1073741824 {
             return false;
         }
         i += 1;
@@ -141,7 +81,7 @@ fn no_term() -> TermInput
 }
 
 // The term at `at`, of at most `left` literals.
-fn read_term(nums: &[u32], at: usize, left: u32) -> TermInput
+fn read_term(nums: &[i64], at: usize, left: u32) -> TermInput
     requires { ⌜ (at < 1000) × (left ≤ 19) ⌝ }
     ensures { λ r. ⌜ Small (r .term) × (r .term .count ≤ left) ⌝ }
 {
@@ -170,7 +110,7 @@ struct Terms {
     good: bool,
 }
 
-fn read_terms(nums: &[u32]) -> Terms
+fn read_terms(nums: &[i64]) -> Terms
     ensures { λ r. ⌜ TermsRead r ⌝ }
 {
     let none = LinearInfo {
@@ -198,7 +138,7 @@ fn read_terms(nums: &[u32]) -> Terms
     }
 }
 
-fn run_ge(nums: &[u32], lits: &mut [u32], ends: &mut [u32]) {
+fn run_ge(nums: &[i64], lits: &mut [u32], ends: &mut [u32]) {
     let t = read_terms(nums);
     if !t.good {
         show(b"bad line\n");
@@ -233,8 +173,8 @@ struct Row {
 }
 
 // n literals from `from` on.
-fn row_lits(nums: &[u32], from: usize, n: usize) -> [Lit; 32]
-    requires { ⌜ (n ≤ 12) × (from + n ≤ length (now nums)) ⌝ }
+fn lits_from(nums: &[i64], from: usize, n: usize) -> [Lit; 32]
+    requires { ⌜ (n ≤ 26) × (from + n ≤ length (now nums)) ⌝ }
     ensures { λ r. ⌜ AllLow r ⌝ }
 {
     let mut out = [Lit(0); 32];
@@ -247,8 +187,8 @@ fn row_lits(nums: &[u32], from: usize, n: usize) -> [Lit; 32]
     out
 }
 
-fn read_row(nums: &[u32], at: usize) -> Row
-    requires { ⌜ (at < length (now nums)) × (length (now nums) ≤ 512) ⌝ }
+fn read_row(nums: &[i64], at: usize) -> Row
+    requires { ⌜ (at < length (now nums)) × (length (now nums) ≤ 511) ⌝ }
     ensures { λ r. ⌜ RowRead at r ⌝ }
 {
     let coef = number(nums, at);
@@ -262,7 +202,7 @@ fn read_row(nums: &[u32], at: usize) -> Row
             good: false,
         };
     }
-    let lits = row_lits(nums, at + 2, len);
+    let lits = lits_from(nums, at + 2, len);
     Row {
         lits,
         len,
@@ -273,8 +213,8 @@ fn read_row(nums: &[u32], at: usize) -> Row
 }
 
 // Whether all that is left of a line are rows within bounds.
-fn rows_fit(nums: &[u32], from: usize) -> bool
-    requires { ⌜ length (now nums) ≤ 512 ⌝ }
+fn rows_fit(nums: &[i64], from: usize) -> bool
+    requires { ⌜ length (now nums) ≤ 511 ⌝ }
 {
     let mut at = from;
     while at < nums.len() {
@@ -288,8 +228,8 @@ fn rows_fit(nums: &[u32], from: usize) -> bool
 }
 
 // The columns of the rows.
-fn gather(nums: &[u32], from: usize, counts: &mut [u32; 32]) -> [[Lit; 12]; 32]
-    requires { ⌜ (length (now nums) ≤ 512) × (from ≤ 512) ⌝ }
+fn gather(nums: &[i64], from: usize, counts: &mut [u32; 32]) -> [[Lit; 12]; 32]
+    requires { ⌜ (length (now nums) ≤ 511) × (from ≤ 511) ⌝ }
     requires { ⌜ now counts ≡ replicate 32 0 ⌝ }
     ensures { λ r. ⌜ Gathered 200000 r (now (counts .exit)) ⌝ }
 {
@@ -303,21 +243,6 @@ fn gather(nums: &[u32], from: usize, counts: &mut [u32; 32]) -> [[Lit; 12]; 32]
         at = r.end;
     }
     cols
-}
-
-// The result literals that are given.
-fn results(nums: &[u32], from: usize, n: usize) -> [Lit; 32]
-    requires { ⌜ (n ≤ 26) × (from + n ≤ length (now nums)) ⌝ }
-    ensures { λ r. ⌜ AllLow r ⌝ }
-{
-    let mut out = [Lit(0); 32];
-    let mut i: usize = 0;
-    while i < n {
-        let l = Lit(number(nums, from + i));
-        out[i] = l;
-        i += 1;
-    }
-    out
 }
 
 // The literals of the sum's bits, behind the word and the variable count.
@@ -334,8 +259,8 @@ fn show_bits(s: AdderState) {
     show(b" :");
 }
 
-fn run_adder(nums: &[u32], lits: &mut [u32], ends: &mut [u32])
-    requires { ⌜ length (now nums) ≤ 512 ⌝ }
+fn run_adder(nums: &[i64], lits: &mut [u32], ends: &mut [u32])
+    requires { ⌜ length (now nums) ≤ 511 ⌝ }
 {
     let vars = number(nums, 0);
     let width = number(nums, 2) as usize;
@@ -359,14 +284,14 @@ fn run_adder(nums: &[u32], lits: &mut [u32], ends: &mut [u32])
         show(b"tall\n");
         return;
     }
-    let first = results(nums, 4, given);
+    let first = lits_from(nums, 4, given);
     let s = log_adder::log_encoding_adder(lits, ends, cols, counts, first, p, vars, nothing());
     show_bits(s);
     show_clauses(lits, ends, s.used);
 }
 
-fn run_eq_adder(nums: &[u32], lits: &mut [u32], ends: &mut [u32])
-    requires { ⌜ length (now nums) ≤ 512 ⌝ }
+fn run_eq_adder(nums: &[i64], lits: &mut [u32], ends: &mut [u32])
+    requires { ⌜ length (now nums) ≤ 511 ⌝ }
 {
     let vars = number(nums, 0);
     let width = number(nums, 3) as usize;
@@ -391,66 +316,56 @@ fn run_eq_adder(nums: &[u32], lits: &mut [u32], ends: &mut [u32])
 
 // Lines ------------------------------------------------------------------------------------------------------------------
 
-// A line with the word of its first `end` bytes.
-fn run(s: &[u8], end: usize, nums: &[u32], lits: &mut [u32], ends: &mut [u32])
-    requires { ⌜ length (now nums) ≤ 512 ⌝ }
+// A line with this word and these numbers.
+fn run(word: Word, nums: &[i64], lits: &mut [u32], ends: &mut [u32])
+    requires { ⌜ length (now nums) ≤ 511 ⌝ }
 {
-    if is_word(s, end, b"ge") {
+    if !all_small(nums) {
+        show(b"bad line\n");
+    } else if lines::is_word(word, b"ge") {
         run_ge(nums, lits, ends);
-    } else if is_word(s, end, b"adder") {
+    } else if lines::is_word(word, b"adder") {
         run_adder(nums, lits, ends);
-    } else if is_word(s, end, b"eq_adder") {
+    } else if lines::is_word(word, b"eq_adder") {
         run_eq_adder(nums, lits, ends);
     } else {
         show(b"bad line\n");
     }
 }
 
-fn answer_line(s: &[u8], lits: &mut [u32], ends: &mut [u32]) {
-    let t = words::read(s, Cursor { at: 0 });
-    let Token::Word { begin, end, next } = t else {
-        show(b"bad line\n");
-        return;
-    };
-    let mut nums = [0u32; 512];
-    let n = numbers(s, next.at, &mut nums);
-    if n > 512 {
-        show(b"bad line\n");
-        return;
-    }
-    run(s, end, &nums[..n], lits, ends);
-}
-
-// The place of the next line feed, or the text's end.
-fn line_end(s: &[u8], at: usize) -> usize
-    requires { ⌜ at ≤ length (now s) ⌝ }
-    ensures { λ r. ⌜ (at ≤ r) × (r ≤ length (now (s .entry))) ⌝ }
+// A line that ends here.
+fn end_line(line: Line, nums: &mut [i64], lits: &mut [u32], ends: &mut [u32])
+    requires { ⌜ length (now nums) ≤ 511 ⌝ }
 {
-    let mut i = at;
-    while i < s.len() {
-        if s[i] == b'\n' {
-            return i;
-        }
-        i += 1;
+    let whole = lines::line_whole(nums, line);
+    let word = whole.word;
+    let numbers = whole.numbers;
+    let n = numbers.count;
+    if !numbers.good {
+        show(b"bad line\n");
+        return;
     }
-    i
+    run(word, &nums[..n], lits, ends);
 }
 
-fn answer_lines(s: &[u8], lits: &mut [u32], ends: &mut [u32])
-    requires { ⌜ length (now s) ≤ 262144 ⌝ }
+fn run_lines(s: &[u8], nums: &mut [i64], lits: &mut [u32], ends: &mut [u32])
+    requires { ⌜ length (now nums) ≤ 511 ⌝ }
 {
     let mut at: usize = 0;
     while at < s.len() {
-        let end = line_end(s, at);
-        answer_line(&s[at..end], lits, ends);
-        at = end + 1;
+        let fed = lines::feed(nums, lines::line_start(), s, at);
+        let line = fed.line;
+        end_line(line, nums, lits, ends);
+        at = fed.next;
     }
 }
 
+// The input has at most 262,144 bytes, a line at most 511 numbers.
 fn main() {
     let mut input = [0u8; 262144];
-    let n = io::read_full(STDIN_FILENO, &mut input);
+    let mut nums = [0i64; 511];
     let mut lits = [0u32; 524288];
     let mut ends = [0u32; 65536];
-    answer_lines(&input[..n], &mut lits, &mut ends);
+    let n = io::read_full(STDIN_FILENO, &mut input);
+    run_lines(&input[..n], &mut nums, &mut lits, &mut ends);
 }

@@ -10,7 +10,7 @@ use Rattle.columns_check.proofs.gather.Statement.{statement}
 use Rattle.columns_check.proofs.gather.Tie as tie
 
 abbrev Inv-loop : tie.InvT-loop
-Inv-loop nums from counts₀ cols₀ at₀ counts cols at = (at ≤ 512) × Gathered (384 * at) cols counts
+Inv-loop nums from counts₀ cols₀ at₀ counts cols at = (at ≤ 511) × Gathered (384 * at) cols counts
 
 abbrev μ-loop : tie.MeasureT-loop
 μ-loop nums from counts₀ cols₀ at₀ counts cols at = length nums - at
@@ -20,9 +20,9 @@ no-columns-requires c κs = search needs
 
 loop-holds : tie.Need-loop-holds Inv-loop μ-loop
 loop-holds c =
-    let p = c .before .before .pre in
+    let p = c .before .pre in
     let e = c .no-columns .ensures in
-    (p .0 .1, gathered-none (c .before .before .args .from) (e .0) (e .1) (p .1))
+    (p .0 .1, gathered-none (c .before .args .from) (e .0) (e .1) (p .1))
 
 read-row-requires : tie.Need-read-row-requires Inv-loop μ-loop
 read-row-requires c κs = search needs

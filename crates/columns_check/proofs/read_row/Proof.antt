@@ -33,14 +33,14 @@ add-t16 c = search needs
 
 returns : tie.Need-returns
 returns c =
-    let p = c .before .before .before .before .pre in
+    let p = c .before .before .before .pre in
     record { low = every-replicate (lit 0) (λ (x : Lit). x .0 < 2 ^ 31) 32 (lit< tt); len = omega arith; coef = omega arith; onward = omega arith; within = omega (arith, p .0, p .1) }
 
-add-row-lits : tie.Need-add-row-lits
-add-row-lits c = search needs
+add-lits-from : tie.Need-add-lits-from
+add-lits-from c = search needs
 
-row-lits-requires : tie.Need-row-lits-requires
-row-lits-requires c κs = search needs
+lits-from-requires : tie.Need-lits-from-requires
+lits-from-requires c κs = omega (arith, ltb-false)
 
 add-t7 : tie.Need-add-t7
 add-t7 c = search needs
@@ -50,8 +50,8 @@ add-t17 c = search needs
 
 returns-2 : tie.Need-returns-2
 returns-2 c =
-    let p = c .before .before .before .before .before .before .before .pre in
-    record { low = c .row-lits .ensures; len = omega (arith, ltb-false); coef = omega (arith, ltb-false); onward = omega arith; within = omega (arith, ltb-false, p .0, p .1) }
+    let p = c .before .before .before .before .before .before .pre in
+    record { low = c .lits-from .ensures; len = omega (arith, ltb-false); coef = omega (arith, ltb-false); onward = omega arith; within = omega (arith, ltb-false, p .0, p .1) }
 
 pub read-row-spec : {M : Type 1} → statement M
 read-row-spec =
@@ -65,8 +65,8 @@ read-row-spec =
     add-if3-2
     add-t16
     returns
-    add-row-lits
-    row-lits-requires
+    add-lits-from
+    lits-from-requires
     add-t7
     add-t17
     returns-2)

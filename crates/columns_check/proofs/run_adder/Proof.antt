@@ -75,8 +75,8 @@ show-requires-3 c κs = search needs
 returns-3 : tie.Need-returns-3
 returns-3 c = search needs
 
-results-requires : tie.Need-results-requires
-results-requires c κs = let s = c .before .before .before .before .before .before .before in omega (arith, ltb-false)
+lits-from-requires : tie.Need-lits-from-requires
+lits-from-requires c κs = let s = c .before .before .before .before .before .before .before in omega (arith, ltb-false)
 
 nothing-requires : tie.Need-nothing-requires
 nothing-requires c κs = search needs
@@ -91,7 +91,7 @@ log-encoding-adder-requires c κs =
         width = omega (arith, ltb-false);
         fewer = omega (arith, ltb-false);
         own = g .arrays .low;
-        results = c .before .before .before .results .ensures;
+        results = c .before .before .before .lits-from .ensures;
       },
       (
         ap (ltb 12) (sym (h .ensures)) ∙ le-ltb 12 (h .result) (c .before .before .before .before .if6 .left),
@@ -139,7 +139,7 @@ run-adder-spec =
     slice-aggregate-show-3
     show-requires-3
     returns-3
-    results-requires
+    lits-from-requires
     nothing-requires
     log-encoding-adder-requires
     show-bits-requires

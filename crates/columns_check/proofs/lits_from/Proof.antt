@@ -1,4 +1,4 @@
--- `columns_check::row_lits` meets its contract.
+-- `columns_check::lits_from` meets its contract.
 use mathlib.Core.Path.{_≡_, refl, _∙_}
 use Prim.Native.Nat.{_-_, _≤_, _<_, _^_}
 use native.Mathlib.Omega.{arith}
@@ -9,8 +9,8 @@ use Rattle.sat.specs.declared.Lit.{Lit}
 use Rattle.log_adder.specs.ColumnInfo.{AllLow}
 use Rattle.sat.specs.LitArray.{lit}
 use Rattle.log_adder.proofs.ColumnTerms.{every-replicate, every-set}
-use Rattle.columns_check.proofs.row_lits.Statement.{statement}
-use Rattle.columns_check.proofs.row_lits.Tie as tie
+use Rattle.columns_check.proofs.lits_from.Statement.{statement}
+use Rattle.columns_check.proofs.lits_from.Tie as tie
 
 abbrev Inv-loop : tie.InvT-loop
 Inv-loop nums from n out₀ i₀ out i = (i ≤ n) × (length out ≡ 32) × AllLow out
@@ -51,8 +51,8 @@ loop-again c =
 returns : tie.Need-returns Inv-loop μ-loop
 returns c = c .before .loop .inv .2
 
-pub row-lits-spec : {M : Type 1} → statement M
-row-lits-spec =
+pub lits-from-spec : {M : Type 1} → statement M
+lits-from-spec =
     tie.close
     (tie.spec
     Inv-loop
