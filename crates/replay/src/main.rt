@@ -4,18 +4,17 @@ ghost use Prim.Native.Nat.{_≤_};
 ghost use lib.ListN.{length};
 
 // Reads and answers until the input ends or a line cannot be read. (No input has 2 ^ 64 times 65,536 bytes.)
-fn run_input(nums: &mut [i64], lits: &mut [u32], ends: &mut [u32])
+fn run_input(input: &mut [u8], nums: &mut [i64], lits: &mut [u32], ends: &mut [u32])
     requires { ⌜ (8192 ≤ length (now lits)) × (4096 ≤ length (now ends)) ⌝ }
 {
-    let mut input = [0u8; 65536];
     let mut part = script::start();
     let mut turns: u64 = 18446744073709551615;
     while turns > 0 {
-        let n = io::read_full(STDIN_FILENO, &mut input);
+        let n = io::read_full(STDIN_FILENO, input);
         let next = script::run_part(&input[..n], part, nums, lits, ends);
         part = next;
         let run = part.run;
-        if n < 65536 || !run.good {
+        if n < input.len() || !run.good {
             script::finish(part, nums, lits, ends);
             return;
         }
@@ -23,9 +22,20 @@ fn run_input(nums: &mut [i64], lits: &mut [u32], ends: &mut [u32])
     }
 }
 
+// The arrays' types say how long they are, so that the check does not count their entries.
+fn run_in_arrays(
+    input: &mut [u8; 65536],
+    nums: &mut [i64; 65537],
+    lits: &mut [u32; 524288],
+    ends: &mut [u32; 131072],
+) {
+    run_input(input, nums, lits, ends);
+}
+
 fn main() {
+    let mut input = [0u8; 65536];
     let mut nums = [0i64; 65537];
     let mut lits = [0u32; 524288];
     let mut ends = [0u32; 131072];
-    run_input(&mut nums, &mut lits, &mut ends);
+    run_in_arrays(&mut input, &mut nums, &mut lits, &mut ends);
 }

@@ -28,18 +28,28 @@ fn run_lines(s: &[u8], nums: &mut [i64], lits: &mut [u32], ends: &mut [u32])
     }
 }
 
-// The lines of standard input, which has at most 524,288 bytes.
-fn run_input(nums: &mut [i64], lits: &mut [u32], ends: &mut [u32])
+// The lines of standard input, up to the length of `input`.
+fn run_input(input: &mut [u8], nums: &mut [i64], lits: &mut [u32], ends: &mut [u32])
     requires { ⌜ (8192 ≤ length (now lits)) × (4096 ≤ length (now ends)) ⌝ }
 {
-    let mut input = [0u8; 524288];
-    let n = io::read_full(STDIN_FILENO, &mut input);
+    let n = io::read_full(STDIN_FILENO, input);
     run_lines(&input[..n], nums, lits, ends);
 }
 
+// The arrays' types say how long they are, so that the check does not count their entries.
+fn run_in_arrays(
+    input: &mut [u8; 524288],
+    nums: &mut [i64; 65537],
+    lits: &mut [u32; 524288],
+    ends: &mut [u32; 131072],
+) {
+    run_input(input, nums, lits, ends);
+}
+
 fn main() {
+    let mut input = [0u8; 524288];
     let mut nums = [0i64; 65537];
     let mut lits = [0u32; 524288];
     let mut ends = [0u32; 131072];
-    run_input(&mut nums, &mut lits, &mut ends);
+    run_in_arrays(&mut input, &mut nums, &mut lits, &mut ends);
 }
