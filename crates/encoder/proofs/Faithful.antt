@@ -26,11 +26,11 @@ use Rattle.encoder_env.proofs.Records.{all-true, lits-known}
 use Rattle.encoder_answer.specs.Encoded.{number}
 use Rattle.encoder_read.specs.Calls.{all-bits, clause-checks, clause-read, open-outcome, read-checks, value-read}
 use Rattle.encoder_var.specs.Settings.{setting-checks, setting-outcome, with-encoding}
-use Rattle.encoder_answer.specs.Adding.{added, adding, grown, space-for}
+use Rattle.encoder_answer.specs.Adding.{added, adding, adding-status, grown}
 use Rattle.encoder_mul.specs.Products.{mul-checks, product-encoded}
 use Rattle.encoder_linear.specs.Sums.{linear-checks, sum-encoded}
 use Rattle.encoder_env.specs.declared.EncoderEnv.{EncoderEnv}
-use Rattle.encoder_answer.specs.Outcome.{Outcome, settled, status-of}
+use Rattle.encoder_answer.specs.Outcome.{Check, Outcome, settled, status-of}
 use Rattle.encoder_read.proofs.Acceptance.{read-accepted}
 use Rattle.encoder_answer.proofs.Statuses.{settled-accepted, settled-known, settled-refused}
 use Rattle.encoder.specs.Faithful.{Demand3, ExactlyOne, Faithful, ReadsBack, Satisfies, written}
@@ -168,21 +168,17 @@ module _ (status : ℕ) (s : State) (ok : Outcome) where
       go true e = let same = settled-accepted status status refl (s .env) (s .lits) (s .ends) ok (eqb-true status 0 e) in ap left same ∙ k same
       go false e = ap left (settled-refused status status refl (s .env) (s .lits) (s .ends) ok (eqb-false status 0 e))
 
-  refused-left : ((ok .status ≡ 0 → ⊥) → left ok ≡ s) → (answer .status ≡ 0 → ⊥) → left answer ≡ s
-  refused-left k h = settled-left (λ e. k (λ z. h (ap (λ (o : Outcome). o .status) e ∙ z)))
-
-adding-refused : (s : State) (status : ℕ) (clauses : Clauses) (job : EncoderEnv)
-    → (let o = adding status (s .env) (s .lits) (s .ends) clauses job in (o .status ≡ 0 → ⊥) → left o ≡ s)
-adding-refused s status clauses job h =
-    let ok = added (s .env) (s .lits) (s .ends) clauses job in
-    let space = status-of (space-for (s .env) (length (s .lits)) (length (s .ends)) (job .variables) clauses) in
-    refused-left status s (settled space (s .env) (s .lits) (s .ends) ok) (refused-left space s ok (λ k. absurd (k refl))) h
+adding-refused : (s : State) (checks : List Check) (clauses : Clauses) (job : EncoderEnv)
+    → (let o = adding checks (s .env) (s .lits) (s .ends) clauses job in (o .status ≡ 0 → ⊥) → left o ≡ s)
+adding-refused s checks clauses job h =
+    settled-left (adding-status checks (s .env) (length (s .lits)) (length (s .ends)) (job .variables) clauses) s
+    (added (s .env) (s .lits) (s .ends) clauses job) (λ e. absurd (h (ap (λ (o : Outcome). o .status) e)))
 
 setting-refused : (s : State) (repr : IntVarRepresentation)
     → (let o = setting-outcome (s .env) (s .lits) (s .ends) repr in (o .status ≡ 0 → ⊥) → left o ≡ s)
 setting-refused s repr h =
     let out = encode-var-log repr (s .env .variables) in
-    adding-refused s (status-of (setting-checks (s .env) (length (s .lits)) (length (s .ends)) repr)) (out .clauses) (with-encoding (s .env) out) h
+    adding-refused s (setting-checks (s .env) (length (s .lits)) (length (s .ends)) repr) (out .clauses) (with-encoding (s .env) out) h
 
 reading-left : (s : State) (x : ℕ) (bytes : List ℕ) → left (outcome s (get-int-value x bytes)) ≡ s
 reading-left s x bytes = settled-left (status-of (read-checks (s .env) (length (s .lits)) (length (s .ends)) x bytes)) s (value-read (s .env) (s .lits) (s .ends) x bytes) (λ e. refl)
@@ -196,10 +192,10 @@ call-refused s (encode-list ks) h = setting-refused s (list ks) h
 call-refused s (encode-binary c f t) h = setting-refused s (binary c f t) h
 call-refused s (encode-linear op constant terms) h =
     let out = sum-encoded (s .env) op constant terms in
-    adding-refused s (status-of (linear-checks (s .env) (length (s .lits)) (length (s .ends)) op constant terms)) (out .clauses) (grown (s .env) (out .vars) (out .clauses)) h
+    adding-refused s (linear-checks (s .env) (length (s .lits)) (length (s .ends)) op constant terms) (out .clauses) (grown (s .env) (out .vars) (out .clauses)) h
 call-refused s (encode-mul x y m) h =
     let out = product-encoded (s .env) x y m in
-    adding-refused s (status-of (mul-checks (s .env) (length (s .lits)) (length (s .ends)) x y m)) (out .clauses) (grown (s .env) (out .vars) (out .clauses)) h
+    adding-refused s (mul-checks (s .env) (length (s .lits)) (length (s .ends)) x y m) (out .clauses) (grown (s .env) (out .vars) (out .clauses)) h
 call-refused s (get-int-value x bytes) h = reading-left s x bytes
 call-refused s (clause k) h = clause-left s k
 

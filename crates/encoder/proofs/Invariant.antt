@@ -28,7 +28,7 @@ use Rattle.encoder_env.specs.declared.EncoderEnv.{EncoderEnv}
 use Rattle.encoder_answer.proofs.Adding.{Accepted}
 use Rattle.encoder_answer.specs.Encoded.{number}
 use Rattle.encoder_read.specs.Calls.{open-checks, open-outcome, opened}
-use Rattle.encoder_answer.specs.Outcome.{Outcome, status-of}
+use Rattle.encoder_answer.specs.Outcome.{Check, Outcome, status-of}
 use Rattle.encoder_answer.proofs.Statuses.{passed, settled-known}
 use Rattle.encoder.specs.Faithful.{stores-of, written}
 use Rattle.encoder.specs.Run.{State, left}
@@ -65,10 +65,10 @@ number-agree s b cs inv α β h x lt =
 abbrev pub after-adding : State → Clauses → EncoderEnv → State
 after-adding s ds job = let filled = add-clauses 0 ds (stores-of s) in record { env = job; lits = filled .lits; ends = filled .ends }
 
-pub more-written : (s : State) (b : NormCsp) (cs : Clauses) → Invariant s b cs → (status : ℕ) (ds : Clauses) (job : EncoderEnv)
-    → Accepted status (s .env) (s .lits) (s .ends) ds job → job .literals ≡ s .env .literals + entries ds → job .clauses ≡ s .env .clauses + length ds
+pub more-written : (s : State) (b : NormCsp) (cs : Clauses) → Invariant s b cs → (checks : List Check) (ds : Clauses) (job : EncoderEnv)
+    → Accepted checks (s .env) (s .lits) (s .ends) ds job → job .literals ≡ s .env .literals + entries ds → job .clauses ≡ s .env .clauses + length ds
     → (written (after-adding s ds job) ≡ cs ++ ds) × Sound (stores-of (after-adding s ds job)) × (entries (cs ++ ds) ≡ job .literals)
-more-written s b cs inv status ds job a l c =
+more-written s b cs inv checks ds job a l c =
     let filled = add-clauses 0 ds (stores-of s) in
     let same : filled ≡ stores-of (after-adding s ds job) =
     λ i. stores (filled .lits) (filled .ends) ((used-after 0 ds (stores-of s) ∙ sym l) i) ((count-after 0 ds (stores-of s) ∙ sym c) i) in

@@ -11,8 +11,8 @@ use Rattle.clause_set.proofs.ReadBack.{kept-long}
 use Rattle.norm_csp.specs.Domain.{IntVarRepresentation, binary, list, range}
 use Rattle.log_var.specs.EncodeVarLog.{encode-var-log}
 use Rattle.encoder_env.specs.declared.EncoderEnv.{EncoderEnv}
-use Rattle.encoder_answer.specs.Adding.{added, adding, grown, space-for}
-use Rattle.encoder_answer.specs.Outcome.{Outcome, refused, settled, status-of}
+use Rattle.encoder_answer.specs.Adding.{added, adding, adding-status, grown}
+use Rattle.encoder_answer.specs.Outcome.{Check, Outcome, refused, settled, status-of}
 use Rattle.encoder_linear.specs.Sums.{linear-checks, sum-encoded}
 use Rattle.encoder_mul.specs.Products.{mul-checks, product-encoded}
 use Rattle.encoder_read.specs.Calls.{clause-checks, clause-read, open-checks, open-outcome, opened, read-checks, value-read}
@@ -31,11 +31,10 @@ module _ (env : EncoderEnv) (lits ends : List ℕ) where
       go true = h
       go false = (refl, refl)
 
-  adding-long : (status : ℕ) (clauses : Clauses) (job : EncoderEnv) → Long (adding status env lits ends clauses job)
-  adding-long status clauses job =
-      settled-long status _
-      (settled-long (status-of (space-for env (length lits) (length ends) (job .variables) clauses)) (added env lits ends clauses job)
-      (kept-long clauses (stores lits ends (env .literals) (env .clauses))))
+  adding-long : (checks : List Check) (clauses : Clauses) (job : EncoderEnv) → Long (adding checks env lits ends clauses job)
+  adding-long checks clauses job =
+      settled-long (adding-status checks env (length lits) (length ends) (job .variables) clauses) (added env lits ends clauses job)
+      (kept-long clauses (stores lits ends (env .literals) (env .clauses)))
 
 pub open-long : (switches : ℕ) (lits ends : List ℕ)
     → (let o = open-outcome switches lits ends in (length (o .lits) ≡ length lits) × (length (o .ends) ≡ length ends))
@@ -45,7 +44,7 @@ open-long switches lits ends =
 setting-long : (s : State) (repr : IntVarRepresentation) → Long (s .env) (s .lits) (s .ends) (setting-outcome (s .env) (s .lits) (s .ends) repr)
 setting-long s repr =
     let out = encode-var-log repr (s .env .variables) in
-    adding-long (s .env) (s .lits) (s .ends) (status-of (setting-checks (s .env) (length (s .lits)) (length (s .ends)) repr)) (out .clauses) (with-encoding (s .env) out)
+    adding-long (s .env) (s .lits) (s .ends) (setting-checks (s .env) (length (s .lits)) (length (s .ends)) repr) (out .clauses) (with-encoding (s .env) out)
 
 call-long : (s : State) (c : Call) → Long (s .env) (s .lits) (s .ends) (outcome s c)
 call-long s (encode-range low high) = setting-long s (range low high)
@@ -53,10 +52,10 @@ call-long s (encode-list ks) = setting-long s (list ks)
 call-long s (encode-binary c f t) = setting-long s (binary c f t)
 call-long s (encode-linear op constant terms) =
     let out = sum-encoded (s .env) op constant terms in
-    adding-long (s .env) (s .lits) (s .ends) (status-of (linear-checks (s .env) (length (s .lits)) (length (s .ends)) op constant terms)) (out .clauses) (grown (s .env) (out .vars) (out .clauses))
+    adding-long (s .env) (s .lits) (s .ends) (linear-checks (s .env) (length (s .lits)) (length (s .ends)) op constant terms) (out .clauses) (grown (s .env) (out .vars) (out .clauses))
 call-long s (encode-mul x y m) =
     let out = product-encoded (s .env) x y m in
-    adding-long (s .env) (s .lits) (s .ends) (status-of (mul-checks (s .env) (length (s .lits)) (length (s .ends)) x y m)) (out .clauses) (grown (s .env) (out .vars) (out .clauses))
+    adding-long (s .env) (s .lits) (s .ends) (mul-checks (s .env) (length (s .lits)) (length (s .ends)) x y m) (out .clauses) (grown (s .env) (out .vars) (out .clauses))
 call-long s (get-int-value x bytes) =
     settled-long (s .env) (s .lits) (s .ends) (status-of (read-checks (s .env) (length (s .lits)) (length (s .ends)) x bytes)) (value-read (s .env) (s .lits) (s .ends) x bytes) (refl, refl)
 call-long s (clause k) =

@@ -16,7 +16,7 @@ use Rattle.norm_csp.specs.Rules.{LinearTerm, op-of, terms-of}
 use Rattle.norm_csp.proofs.NormCsp.{KnownConstraint, KnownTerms, holds-same, rule-known, rule-less, rule-more}
 use Rattle.encoder_answer.specs.Adding.{adding, grown}
 use Rattle.encoder_answer.specs.Encoded.{number}
-use Rattle.encoder_answer.specs.Outcome.{Outcome}
+use Rattle.encoder_answer.specs.Outcome.{Check, Outcome}
 use Rattle.encoder_mul.specs.Products.{mul-outcome, product-encoded}
 use Rattle.encoder_linear.specs.Sums.{linear-outcome, sum-encoded}
 use Rattle.encoder_env.specs.declared.EncoderEnv.{EncoderEnv}
@@ -26,8 +26,8 @@ use Rattle.encoder_linear.proofs.Added.{AllKnown, sum-added}
 use Rattle.encoder.specs.Run.{State, left}
 use Rattle.encoder.proofs.Invariant.{Invariant, after-adding, more-written, number-agree}
 
-module _ (s : State) (b : NormCsp) (cs : Clauses) (inv : Invariant s b cs) (c : Constraint) (status : ℕ) (out : EncodedRule)
-    (a : RuleAdded status (s .env) (s .lits) (s .ends) out (λ α. Holds (number (s .env) α) c)) (known : KnownConstraint (length (b .vars)) c) where
+module _ (s : State) (b : NormCsp) (cs : Clauses) (inv : Invariant s b cs) (c : Constraint) (checks : List Check) (out : EncodedRule)
+    (a : RuleAdded checks (s .env) (s .lits) (s .ends) out (λ α. Holds (number (s .env) α) c)) (known : KnownConstraint (length (b .vars)) c) where
   abbrev v : ℕ
   v = s .env .variables
 
@@ -53,12 +53,12 @@ module _ (s : State) (b : NormCsp) (cs : Clauses) (inv : Invariant s b cs) (c : 
 
   next-invariant : Invariant (after-adding s ds job) (add-constraint c b) (cs ++ ds)
   next-invariant =
-      let stored = more-written s b cs inv status ds job (a .accepted) refl refl in
+      let stored = more-written s b cs inv checks ds job (a .accepted) refl refl in
       record {
         held = stored .0;
         counted = stored .2;
         ends-sound = stored .1;
-        well = rule-well-formed status (s .env) (s .lits) (s .ends) out (λ α. Holds (number (s .env) α) c) a;
+        well = rule-well-formed checks (s .env) (s .lits) (s .ends) out (λ α. Holds (number (s .env) α) c) a;
         long = inv .long;
         below = clauses-below-append (out .vars) cs ds (clauses-below-more v (out .vars) cs (a .says .grows) (inv .below)) (a .says .below);
         switches = inv .switches;
@@ -72,7 +72,7 @@ module _ (s : State) (b : NormCsp) (cs : Clauses) (inv : Invariant s b cs) (c : 
             a .says .unique α β tt (inv .unique α β (p .0) (q .0) same numbers) (p .1) (q .1);
       }
 
-  rule-kept : (ds : Clauses) × Invariant (left (adding status (s .env) (s .lits) (s .ends) (out .clauses) job)) (add-constraint c b) ds
+  rule-kept : (ds : Clauses) × Invariant (left (adding checks (s .env) (s .lits) (s .ends) (out .clauses) job)) (add-constraint c b) ds
   rule-kept =
       (cs ++ ds, subst (λ (o : Outcome). Invariant (left o) (add-constraint c b) (cs ++ ds)) (sym (a .accepted .outcome-is)) next-invariant)
 

@@ -1,6 +1,6 @@
 -- An accepted call that adds (`known`): what it had, and what it left. Of a rule: what its clauses say (`rule-encodes`), and that the job
 -- stays well formed (`rule-well-formed`).
-use mathlib.Core.Path.{_≡_, _∙_, ap, refl, sym}
+use mathlib.Core.Path.{_≡_, _∙_, ap, refl}
 use mathlib.Core.Bool.{_&&_, true}
 use mathlib.Core.List.{List}
 use Prim.Native.Nat.{_+_, _-_, _≤_, ℕ}
@@ -19,41 +19,46 @@ use Rattle.encoder_env.specs.WellFormed.{all-below, record-holds, well-formed}
 use Rattle.encoder_env.proofs.Kept.{Kept, well-formed-of}
 use Rattle.encoder_env.proofs.Records.{records-more}
 use Rattle.encoder_env.proofs.Tests.{both}
-use Rattle.encoder_answer.specs.Adding.{added, adding, grown, space-for}
+use Rattle.encoder_answer.specs.Adding.{added, adding, adding-status, grown}
 use Rattle.encoder_answer.specs.Encoded.{added-clauses}
-use Rattle.encoder_answer.specs.Outcome.{Outcome, status-of}
-use Rattle.encoder_answer.proofs.Statuses.{passed, settled-known}
+use Rattle.encoder_answer.specs.Outcome.{Check, Outcome, status-of}
+use Rattle.encoder_answer.proofs.Statuses.{Numbered, both-lists, passed, settled-accepted, settled-known}
 
-module _ (status : ℕ) (env : EncoderEnv) (lits ends : List ℕ) (clauses : Clauses) (job : EncoderEnv) where
+module _ (checks : List Check) (env : EncoderEnv) (lits ends : List ℕ) (clauses : Clauses) (job : EncoderEnv) where
   abbrev outcome : Outcome
-  outcome = adding status env lits ends clauses job
+  outcome = adding checks env lits ends clauses job
+
+  abbrev status : ℕ
+  status = adding-status checks env (length lits) (length ends) (job .variables) clauses
 
   -- the stores after the call
   abbrev filled : Stores
   filled = add-clauses 0 clauses (stores lits ends (env .literals) (env .clauses))
 
   pub record Accepted : Type 0 where
-    pub passed-all : status ≡ 0
+    pub passed-all : status-of checks ≡ 0
     pub vars-fit : job .variables ≤ 65535
     pub lits-fit : env .literals + entries clauses ≤ length lits
     pub ends-fit : env .clauses + length clauses + 1 ≤ length ends
     pub outcome-is : outcome ≡ added env lits ends clauses job
 
-  pub known : outcome .status ≡ 0 → Accepted
-  known h =
-      let first = settled-known status env lits ends _ h in
-      let second = settled-known (status-of (space-for env (length lits) (length ends) (job .variables) clauses)) env lits ends _ (sym (ap (λ (o : Outcome). o .status) (first .1)) ∙ h) in
-      let v = passed (leb (job .variables) 65535) _ 13 (second .0) in
+  pub accepted : Numbered checks → status ≡ 0 → Accepted
+  accepted n h =
+      let s = both-lists checks _ n h in
+      let v = passed (leb (job .variables) 65535) _ 13 (s .1) in
       let room-lits = leb (env .literals + entries clauses) (length lits) in
       let room-ends = leb (env .clauses + length clauses + 1) (length ends) in
-      let s = both room-lits room-ends (passed (room-lits && room-ends) 0 14 (v .1) .0) in
+      let r = both room-lits room-ends (passed (room-lits && room-ends) 0 14 (v .1) .0) in
       record {
-        passed-all = first .0;
+        passed-all = s .0;
         vars-fit = leb-true (job .variables) 65535 (v .0);
-        lits-fit = leb-true (env .literals + entries clauses) (length lits) (s .0);
-        ends-fit = leb-true (env .clauses + length clauses + 1) (length ends) (s .1);
-        outcome-is = first .1 ∙ second .1;
+        lits-fit = leb-true (env .literals + entries clauses) (length lits) (r .0);
+        ends-fit = leb-true (env .clauses + length clauses + 1) (length ends) (r .1);
+        outcome-is = settled-accepted status status refl env lits ends _ h;
       }
+
+  pub known : Numbered checks → outcome .status ≡ 0 → Accepted
+  known n h = accepted n (settled-known status env lits ends _ h .0)
 
   module _ (a : Accepted) (counted : job .clauses ≡ env .clauses + length clauses) where
     -- the clauses added are read back from the stores, whatever these held
@@ -94,26 +99,26 @@ module _ (status : ℕ) (env : EncoderEnv) (lits ends : List ℕ) (clauses : Cla
 
 -- An accepted rule ---------------------------------------------------------------------------------------------------
 
-module _ (status : ℕ) (env : EncoderEnv) (lits ends : List ℕ) (out : EncodedRule) (R : Assignment → Type 0) where
+module _ (checks : List Check) (env : EncoderEnv) (lits ends : List ℕ) (out : EncodedRule) (R : Assignment → Type 0) where
   abbrev job : EncoderEnv
   job = grown env (out .vars) (out .clauses)
 
   pub record RuleAdded : Type 0 where
     pub holds : Kept env (length lits) (length ends)
-    pub accepted : Accepted status env lits ends (out .clauses) job
+    pub accepted : Accepted checks env lits ends (out .clauses) job
     pub says : Encodes (env .variables) (out .vars) Any R (out .clauses)
 
   module _ (a : RuleAdded) where
     -- what the clauses that the stores hold say
-    pub rule-encodes : (let o = adding status env lits ends (out .clauses) job in Encodes (env .variables) (o .env .variables) Any R (added-clauses env o))
+    pub rule-encodes : (let o = adding checks env lits ends (out .clauses) job in Encodes (env .variables) (o .env .variables) Any R (added-clauses env o))
     rule-encodes =
-        let o = adding status env lits ends (out .clauses) job in
+        let o = adding checks env lits ends (out .clauses) job in
         let vars : o .env .variables ≡ out .vars = ap (λ (x : Outcome). x .env .variables) (a .accepted .outcome-is) in
-        rw (clauses-are status env lits ends (out .clauses) job (a .accepted) refl, vars) (a .says)
+        rw (clauses-are checks env lits ends (out .clauses) job (a .accepted) refl, vars) (a .says)
 
     pub rule-well-formed : (let after = add-clauses 0 (out .clauses) (stores lits ends (env .literals) (env .clauses)) in
         well-formed job (length (after .lits)) (length (after .ends)) ≡ true)
     rule-well-formed =
         let k = a .holds in
-        still-well-formed status env lits ends (out .clauses) job (a .accepted) refl k refl (a .says .grows) refl (k .count-max)
+        still-well-formed checks env lits ends (out .clauses) job (a .accepted) refl k refl (a .says .grows) refl (k .count-max)
         (records-more env job refl refl (a .says .grows) (k .records))

@@ -1,13 +1,10 @@
 -- What a call that adds answers, from what its parts answer: the checks, the counting, the checks of space, the writing.
 use mathlib.Core.Path.{_≡_, _∙_, ap, sym}
-use mathlib.Core.Bool.{_&&_}
 use mathlib.Core.List.{List}
 use Prim.Native.Nat.{_+_, _<_, _^_, ℕ}
-use lib.Dec.{leb}
 use lib.IntN.{pos}
 use lib.ListN.{length}
 use native.Mathlib.Omega.{arith}
-use borrow.Author.Tests.{leb-true}
 use Rattle.sat.specs.Clause.{Clauses}
 use Rattle.sat.specs.Encoded.{EncodedRule}
 use Rattle.sat.specs.Size.{entries}
@@ -18,96 +15,100 @@ use Rattle.log_linear.specs.Added.{RuleOutcome, add-rule, rule-outcome}
 use Rattle.log_linear.specs.declared.RuleCounts.{RuleCounts}
 use Rattle.encoder_env.specs.declared.EncoderEnv.{EncoderEnv}
 use Rattle.encoder_env.proofs.Kept.{Kept}
-use Rattle.encoder_env.proofs.Tests.{both}
 use Rattle.encoder_answer.specs.declared.Answer.{Answer}
-use Rattle.encoder_answer.specs.Adding.{adding, counts-of, grown, job-with, space-checks, space-for}
-use Rattle.encoder_answer.specs.Outcome.{Answers, Outcome, status-of}
+use Rattle.encoder_answer.specs.Adding.{adding, adding-status, counts-of, grown, job-with, space-checks, space-for}
+use Rattle.encoder_answer.specs.Outcome.{Answers, Check, Outcome, status-of}
 use Rattle.encoder_answer.specs.Sizes.{CountsAfter, RuleSize}
-use Rattle.encoder_answer.proofs.Statuses.{accepts, passed, refuses}
+use Rattle.encoder_answer.proofs.Adding.{accepted}
+use Rattle.encoder_answer.proofs.Statuses.{Numbered, accepts, both-lists, refuses, stops, then-rest}
 
 -- the counts after clauses that were added
-pub counted : (clauses : Clauses) (at used : Counts) (d e d₁ e₁ : List ℕ) → after d₁ e₁ used ≡ add-clauses 0 clauses (after d e at)
+pub counted : (clauses : Clauses) (at : Counts) (d e : List ℕ) {used : Counts} {d₁ e₁ : List ℕ} → after d₁ e₁ used ≡ add-clauses 0 clauses (after d e at)
     → (used .lits ≡ at .lits + entries clauses) × (used .clauses ≡ at .clauses + length clauses)
-counted clauses at used d e d₁ e₁ w = (
+counted clauses at d e w = (
   ap (λ (s : Stores). s .used) w ∙ used-after 0 clauses (after d e at),
   ap (λ (s : Stores). s .count) w ∙ count-after 0 clauses (after d e at),
 )
 
-module _ (env : EncoderEnv) (lits ends : List ℕ) (clauses : Clauses) (job : EncoderEnv) (status r : ℕ) (s : r ≡ status) where
-  -- a check but for space fails
-  pub adding-refused : (a : Answer) → (r ≡ 0 → ⊥) → a ≡ record { status = r; env = env; value = pos 0 }
-      → Answers (adding status env lits ends clauses job) a lits ends
-  adding-refused a h e = refuses r status s env lits ends _ a h e
+-- A call that adds, on stores of these lengths: its checks but those of space, its clauses and the job after it.
+pub record Call (env : EncoderEnv) (lits ends : ℕ) : Type 0 where
+  pub checks : List Check
+  pub numbered : Numbered checks
+  pub holds : status-of checks ≡ 0 → Kept env lits ends
+  pub clauses : Clauses
+  pub job : EncoderEnv
 
-  -- counting left the stores as they were, and gave the counts after the call
-  module _ (z : r ≡ 0) (vars : ℕ) (used : Counts) (m : CountsAfter (job .variables) clauses (counts-of env) vars used) (lits₁ ends₁ : List ℕ) (p : lits₁ ≡ lits) (q : ends₁ ≡ ends)
-      (t : ℕ) (u : t ≡ status-of (space-checks vars (used .lits) (used .clauses) (length lits₁) (length ends₁))) where
-    same-space : t ≡ status-of (space-for env (length lits) (length ends) (job .variables) clauses)
-    same-space = rw (← p, ← q, ← m .vars-are, ← m .lits-are, ← m .clauses-are) u
+-- The number of all checks -------------------------------------------------------------------------------------------
 
-    -- there is no space
-    pub without-space : (a : Answer) → (t ≡ 0 → ⊥) → a ≡ record { status = t; env = env; value = pos 0 }
-        → Answers (adding status env lits ends clauses job) a lits₁ ends₁
-    without-space a h e = rw (p, q) (accepts r status s env lits ends _ a lits ends z (refuses t _ same-space env lits ends _ a h e))
+abbrev pub call-status : {env : EncoderEnv} {lits ends : ℕ} → Call env lits ends → ℕ
+call-status {env} {lits} {ends} d = adding-status (d .checks) env lits ends (d .job .variables) (d .clauses)
 
-    -- there is space, and the clauses were written
-    module _ (y : t ≡ 0) (lits₂ ends₂ : List ℕ) (used₂ : Counts) (w : after lits₂ ends₂ used₂ ≡ add-clauses 0 clauses (after lits₁ ends₁ (counts-of env))) where
-      pub with-space : (a : Answer) → a ≡ record { status = 0; env = job; value = pos 0 } → Answers (adding status env lits ends clauses job) a lits₂ ends₂
-      with-space a e =
-          let written : after lits₂ ends₂ used₂ ≡ add-clauses 0 clauses (after lits ends (counts-of env)) = rw (← p, ← q) w in
-          accepts r status s env lits ends _ a lits₂ ends₂ z
-          (accepts t _ same-space env lits ends _ a lits₂ ends₂ y
-          (record {
-            status = ap (λ (x : Answer). x .status) e;
-            env = ap (λ (x : Answer). x .env) e;
-            value = ap (λ (x : Answer). x .value) e;
-            lits = ap (λ (x : Stores). x .lits) written;
-            ends = ap (λ (x : Stores). x .ends) written;
-          }))
+module _ {env : EncoderEnv} {lits ends : ℕ} (d : Call env lits ends) {r : ℕ} where
+  pub all-passed : r ≡ call-status d → r ≡ 0 → status-of (d .checks) ≡ 0
+  all-passed s z = both-lists (d .checks) (space-for env lits ends (d .job .variables) (d .clauses)) (d .numbered) (sym s ∙ z) .0
 
-      -- and the counts are numbers of a u32
-      pub counts-fit : Kept env (length lits) (length ends) → (used₂ .clauses < 2 ^ 32) × (used₂ .lits < 2 ^ 32)
-      counts-fit k =
-          let n = counted clauses (counts-of env) used₂ lits₁ ends₁ lits₂ ends₂ w in
-          let room-lits = leb (env .literals + entries clauses) (length lits) in
-          let room-ends = leb (env .clauses + length clauses + 1) (length ends) in
-          let v = passed (leb (job .variables) 65535) _ 13 (sym same-space ∙ y) in
-          let b = both room-lits room-ends (passed (room-lits && room-ends) 0 14 (v .1) .0) in (
-            omega (arith, n .1, leb-true (env .clauses + length clauses + 1) (length ends) (b .1), k .ends-max),
-            omega (arith, n .0, leb-true (env .literals + entries clauses) (length lits) (b .0), k .lits-max),
-          )
+  -- from that of the checks but for space: one of them fails
+  pub refused-before : r ≡ status-of (d .checks) → (r ≡ 0 → ⊥) → r ≡ call-status d
+  refused-before s h = s ∙ sym (stops (d .checks) _ (λ z. h (s ∙ z)))
+
+  -- all of them hold: it is that of space, on the counts after the call
+  pub space-settles : r ≡ status-of (d .checks) → r ≡ 0 → {at : Counts} → at ≡ counts-of env
+      → {vars : ℕ} {used : Counts} → CountsAfter (d .job .variables) (d .clauses) at vars used
+      → {t : ℕ} → t ≡ status-of (space-checks vars (used .lits) (used .clauses) lits ends) → t ≡ call-status d
+  space-settles s z k m u = rw (m .vars-are, m .lits-are, m .clauses-are, k) at u ∙ sym (then-rest (d .checks) _ (d .numbered) (sym s ∙ z))
+
+-- The answer ---------------------------------------------------------------------------------------------------------
+
+module _ {env : EncoderEnv} (lits ends : List ℕ) (d : Call env (length lits) (length ends)) {r : ℕ} (s : r ≡ call-status d) where
+  abbrev outcome : Outcome
+  outcome = adding (d .checks) env lits ends (d .clauses) (d .job)
+
+  pub call-refused : (r ≡ 0 → ⊥) → {a : Answer} → a ≡ record { status = r; env = env; value = pos 0 } → Answers outcome a lits ends
+  call-refused h e = refuses r _ s env lits ends _ _ h e
+
+  -- the clauses were written
+  module _ (z : r ≡ 0) {at : Counts} (k : at ≡ counts-of env) {lits₁ ends₁ : List ℕ} {used : Counts}
+      (w : after lits₁ ends₁ used ≡ add-clauses 0 (d .clauses) (after lits ends at)) where
+    pub call-accepted : {a : Answer} → a ≡ record { status = 0; env = d .job; value = pos 0 } → Answers outcome a lits₁ ends₁
+    call-accepted e =
+        let written = w ∙ ap (λ (c : Counts). add-clauses 0 (d .clauses) (after lits ends c)) k in
+        accepts r _ s env lits ends _ _ lits₁ ends₁ z
+        (record {
+          status = ap (λ (x : Answer). x .status) e;
+          env = ap (λ (x : Answer). x .env) e;
+          value = ap (λ (x : Answer). x .value) e;
+          lits = ap (λ (x : Stores). x .lits) written;
+          ends = ap (λ (x : Stores). x .ends) written;
+        })
+
+    -- the counts are numbers of a u32
+    pub counts-fit : (used .clauses < 2 ^ 32) × (used .lits < 2 ^ 32)
+    counts-fit =
+        let a = accepted (d .checks) env lits ends (d .clauses) (d .job) (d .numbered) (sym s ∙ z) in
+        let h = d .holds (a .passed-all) in
+        let m = rw k at (counted (d .clauses) at lits ends w) in
+        (omega (arith, m .1, a .ends-fit, h .ends-max), omega (arith, m .0, a .lits-fit, h .lits-max))
 
 -- A rule -------------------------------------------------------------------------------------------------------------
 
 -- the counts after a rule that was added
-pub rule-sized : (out : EncodedRule) (at : Counts) (d e d₁ e₁ : List ℕ) (r : RuleCounts)
+pub rule-sized : (out : EncodedRule) (at : Counts) (d e : List ℕ) {d₁ e₁ : List ℕ} (r : RuleCounts)
     → rule-outcome d₁ e₁ r ≡ add-rule out (after d e at) → RuleSize out at r
-rule-sized out at d e d₁ e₁ r w =
-    let n = counted (out .clauses) at (r .used) d e d₁ e₁ (ap (λ (o : RuleOutcome). o .stores) w) in
+rule-sized out at d e r w =
+    let n = counted (out .clauses) at d e (ap (λ (o : RuleOutcome). o .stores) w) in
     record { vars-are = ap (λ (o : RuleOutcome). o .vars) w; lits-are = n .0; clauses-are = n .1 }
 
-module _ (env : EncoderEnv) (lits ends : List ℕ) (out : EncodedRule) (status r : ℕ) (s : r ≡ status) where
-  abbrev outcome : Outcome
-  outcome = adding status env lits ends (out .clauses) (grown env (out .vars) (out .clauses))
+-- the call's rule was written
+module _ {env : EncoderEnv} (lits ends : List ℕ) (d : Call env (length lits) (length ends)) (g : d .job ≡ grown env (d .job .variables) (d .clauses))
+    {r : ℕ} (s : r ≡ call-status d) (z : r ≡ 0) {at : Counts} (k : at ≡ counts-of env) {lits₁ ends₁ : List ℕ} {new : RuleCounts}
+    (w : rule-outcome lits₁ ends₁ new ≡ add-rule (record { clauses = d .clauses; vars = d .job .variables }) (after lits ends at)) where
+  -- what `rule_accepted` asks
+  pub rule-fits : (new .used .clauses < 2 ^ 32) × (new .used .lits < 2 ^ 32)
+  rule-fits = counts-fit lits ends d s z k (ap (λ (o : RuleOutcome). o .stores) w)
 
-  pub rule-refused : (a : Answer) → (r ≡ 0 → ⊥) → a ≡ record { status = r; env = env; value = pos 0 } → Answers outcome a lits ends
-  rule-refused a h e = adding-refused env lits ends (out .clauses) (grown env (out .vars) (out .clauses)) status r s a h e
-
-  module _ (z : r ≡ 0) (vars : ℕ) (used : Counts) (m : CountsAfter (out .vars) (out .clauses) (counts-of env) vars used) (lits₁ ends₁ : List ℕ) (p : lits₁ ≡ lits) (q : ends₁ ≡ ends)
-      (t : ℕ) (u : t ≡ status-of (space-checks vars (used .lits) (used .clauses) (length lits₁) (length ends₁))) where
-    pub rule-without-space : (a : Answer) → (t ≡ 0 → ⊥) → a ≡ record { status = t; env = env; value = pos 0 } → Answers outcome a lits₁ ends₁
-    rule-without-space a h e =
-        without-space env lits ends (out .clauses) (grown env (out .vars) (out .clauses)) status r s z vars used m lits₁ ends₁ p q t u a h e
-
-    module _ (y : t ≡ 0) (lits₂ ends₂ : List ℕ) (new : RuleCounts) (w : rule-outcome lits₂ ends₂ new ≡ add-rule out (after lits₁ ends₁ (counts-of env))) where
-      pub rule-added : (a : Answer) → a ≡ record { status = 0; env = job-with env (new .vars) (new .used); value = pos 0 } → Answers outcome a lits₂ ends₂
-      rule-added a e =
-          let n = rule-sized out (counts-of env) lits₁ ends₁ lits₂ ends₂ new w in
-          let job : job-with env (new .vars) (new .used) ≡ grown env (out .vars) (out .clauses) = rw (n .vars-are, n .lits-are, n .clauses-are) in
-          with-space env lits ends (out .clauses) (grown env (out .vars) (out .clauses)) status r s z vars used m lits₁ ends₁ p q t u y lits₂ ends₂ (new .used)
-          (ap (λ (o : RuleOutcome). o .stores) w) a (e ∙ ap (λ (j : EncoderEnv). record { status = 0; env = j; value = pos 0 }) job)
-
-      pub rule-counts-fit : Kept env (length lits) (length ends) → (new .used .clauses < 2 ^ 32) × (new .used .lits < 2 ^ 32)
-      rule-counts-fit k =
-          counts-fit env lits ends (out .clauses) (grown env (out .vars) (out .clauses)) status r s z vars used m lits₁ ends₁ p q t u y lits₂ ends₂ (new .used)
-          (ap (λ (o : RuleOutcome). o .stores) w) k
+  pub rule-added : {a : Answer} → a ≡ record { status = 0; env = job-with env (new .vars) (new .used); value = pos 0 }
+      → Answers (adding (d .checks) env lits ends (d .clauses) (d .job)) a lits₁ ends₁
+  rule-added e =
+      let n = rw k at (rule-sized (record { clauses = d .clauses; vars = d .job .variables }) at lits ends new w) in
+      let same : job-with env (new .vars) (new .used) ≡ d .job = rw (n .vars-are, n .lits-are, n .clauses-are) (sym g) in
+      call-accepted lits ends d s z k (ap (λ (o : RuleOutcome). o .stores) w) (e ∙ ap (λ (j : EncoderEnv). record { status = 0; env = j; value = pos 0 }) same)

@@ -1,4 +1,4 @@
 pub mod Statuses
-pub mod Answering
 pub mod Adding
+pub mod Answering
 pub mod Ready

@@ -38,6 +38,10 @@ abbrev pub Numbered : List Check → Type 0
 Numbered [] = Unit
 Numbered (c ∷ cs) = (0 < c .number) × Numbered cs
 
+pub numbered-both : (cs ds : List Check) → Numbered cs → Numbered ds → Numbered (cs ++ ds)
+numbered-both [] ds n m = m
+numbered-both (c ∷ cs) ds n m = (n .0, numbered-both cs ds (n .1) m)
+
 -- checks that all hold leave those after them
 pub then-rest : (cs ds : List Check) → Numbered cs → status-of cs ≡ 0 → status-of (cs ++ ds) ≡ status-of ds
 then-rest [] ds n h = refl

@@ -4,8 +4,9 @@ use lib.Dec.{leb}
 use lib.IntN.{pos}
 use lib.ListN.{length, set}
 use mathlib.Core.Bool.{_&&_}
-use mathlib.Core.List.{List, [], _∷_}
+use mathlib.Core.List.{List, [], _++_, _∷_}
 use Rattle.sat.specs.Clause.{Clauses}
+use Rattle.sat.specs.Encoded.{EncodedRule}
 use Rattle.sat.specs.Size.{entries}
 use Rattle.clause_set.specs.Stores.{add-clauses, stores}
 use Rattle.clause_set.specs.declared.Counts.{Counts}
@@ -60,8 +61,15 @@ added env lits ends clauses job =
     let after = add-clauses 0 clauses (stores lits ends (env .literals) (env .clauses)) in
     record { status = 0; env = job; value = pos 0; part = []; lits = after .lits; ends = after .ends }
 
--- the checks but those of space, with this status; then those of space; then the clauses
-abbrev pub adding : ℕ → EncoderEnv → List ℕ → List ℕ → Clauses → EncoderEnv → Outcome
-adding status env lits ends clauses job =
-    settled status env lits ends
-    (settled (status-of (space-for env (length lits) (length ends) (job .variables) clauses)) env lits ends (added env lits ends clauses job))
+-- the number of all checks: these, and then those of space
+abbrev pub adding-status : List Check → EncoderEnv → ℕ → ℕ → ℕ → Clauses → ℕ
+adding-status checks env lits ends vars clauses = status-of (checks ++ space-for env lits ends vars clauses)
+
+-- of a rule
+abbrev pub rule-status : List Check → EncoderEnv → ℕ → ℕ → EncodedRule → ℕ
+rule-status checks env lits ends out = adding-status checks env lits ends (out .vars) (out .clauses)
+
+-- the clauses and the job after them, where all checks hold
+abbrev pub adding : List Check → EncoderEnv → List ℕ → List ℕ → Clauses → EncoderEnv → Outcome
+adding checks env lits ends clauses job =
+    settled (adding-status checks env (length lits) (length ends) (job .variables) clauses) env lits ends (added env lits ends clauses job)

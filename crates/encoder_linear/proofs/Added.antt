@@ -25,7 +25,7 @@ use Rattle.encoder_env.proofs.Tests.{both, lez-read}
 use Rattle.encoder_answer.specs.Adding.{grown}
 use Rattle.encoder_linear.specs.Encoded.{LinearEncodes}
 use Rattle.encoder_answer.specs.Encoded.{RuleEncodes, number}
-use Rattle.encoder_answer.specs.Outcome.{check, status-of}
+use Rattle.encoder_answer.specs.Outcome.{Check, check, status-of}
 use Rattle.encoder_linear.specs.Sums.{argument-checks, coef-at, coef-fits, coefs-fit, constant-fits, linear-checks, linear-outcome, setting-at, setting-known, settings-known, settings-rise, sum-encoded, sum-reached, term-count, terms-paired}
 use Rattle.encoder_answer.proofs.Adding.{RuleAdded, known, rule-encodes}
 use Rattle.encoder_answer.proofs.Statuses.{Numbered, both-lists, passed}
@@ -114,6 +114,9 @@ module _ (env : EncoderEnv) (lits ends op : ℕ) (constant : ℤ) (terms : List 
   pub arguments-numbered : Numbered (argument-checks env lits ends op constant terms)
   arguments-numbered = (lit< tt, (lit< tt, (lit< tt, (lit< tt, (lit< tt, (lit< tt, (lit< tt, tt)))))))
 
+  pub numbered : Numbered (linear-checks env lits ends op constant terms)
+  numbered = (lit< tt, (lit< tt, (lit< tt, (lit< tt, (lit< tt, (lit< tt, (lit< tt, (lit< tt, tt))))))))
+
   pub record SumKnown : Type 0 where
     pub arguments : ArgumentsKnown
     pub terms-are : AllKnown (env .count) (terms-of terms)
@@ -157,19 +160,19 @@ module _ (env : EncoderEnv) (lits ends : List ℕ) (op : ℕ) (constant : ℤ) (
   abbrev Rule : Assignment → Type 0
   Rule α = LinearHolds (number env α) (op-of op) constant (terms-of terms)
 
-  abbrev status : ℕ
-  status = status-of (linear-checks env (length lits) (length ends) op constant terms)
+  abbrev checks : List Check
+  checks = linear-checks env (length lits) (length ends) op constant terms
 
   pub sum-added : linear-outcome env lits ends op constant terms .status ≡ 0
-      → SumKnown env (length lits) (length ends) op constant terms × RuleAdded status env lits ends (sum-encoded env op constant terms) Rule
+      → SumKnown env (length lits) (length ends) op constant terms × RuleAdded checks env lits ends (sum-encoded env op constant terms) Rule
   sum-added h =
       let out = sum-encoded env op constant terms in
-      let a = known status env lits ends (out .clauses) (grown env (out .vars) (out .clauses)) h in
+      let a = known checks env lits ends (out .clauses) (grown env (out .vars) (out .clauses)) (numbered env (length lits) (length ends) op constant terms) h in
       let s = sum-known env (length lits) (length ends) op constant terms (a .passed-all) in
       (s, record { holds = s .arguments .holds; accepted = a; says = sum-encodes env (length lits) (length ends) op constant terms s })
 
   encoded : RuleEncodes env (linear-outcome env lits ends op constant terms) Rule
-  encoded h = rule-encodes status env lits ends (sum-encoded env op constant terms) Rule (sum-added h .1)
+  encoded h = rule-encodes checks env lits ends (sum-encoded env op constant terms) Rule (sum-added h .1)
 
 pub linear-encodes : LinearEncodes
 linear-encodes = encoded

@@ -1,16 +1,20 @@
 -- What the checks of a sum settle for the leaf functions.
+use mathlib.Core.Path.{_≡_}
 use mathlib.Core.List.{List}
 use Prim.Native.Nat.{_<_, ℕ}
 use native.Mathlib.Omega.{arith}
 use lib.IntN.{ℤ}
+use Rattle.clause_set.specs.declared.Counts.{Counts}
 use Rattle.log_sum.specs.Settings.{TermsReady}
 use Rattle.encoder_env.specs.declared.EncoderEnv.{EncoderEnv}
 use Rattle.encoder_env.specs.WellFormed.{lits-fit}
 use Rattle.encoder_env.proofs.Kept.{all-at}
 use Rattle.encoder_linear.specs.Ready.{SumReady}
-use Rattle.encoder_answer.specs.Adding.{counts-of}
-use Rattle.encoder_linear.specs.Sums.{coef-at, coef-fits, setting-at, setting-known, term-count}
-use Rattle.encoder_linear.proofs.Added.{ArgumentsKnown, SumKnown, coef-small, setting-below}
+use Rattle.encoder_answer.specs.Adding.{counts-of, grown}
+use Rattle.encoder_answer.specs.Outcome.{status-of}
+use Rattle.encoder_linear.specs.Sums.{coef-at, coef-fits, linear-checks, setting-at, setting-known, sum-encoded, term-count}
+use Rattle.encoder_linear.proofs.Added.{ArgumentsKnown, coef-small, numbered, setting-below, sum-known}
+use Rattle.encoder_answer.proofs.Answering.{Call}
 use Rattle.encoder_answer.proofs.Ready.{setting-ready}
 
 -- what the checks settle for the leaf functions
@@ -27,12 +31,14 @@ terms-ready env lits ends op constant terms a =
           record { setting = omega (arith, s .0, a .holds .count-max); natural = s .1; coef-up = omega arith; coef-down = omega arith };
     }
 
-pub sum-ready : (env : EncoderEnv) (lits ends op : ℕ) (constant : ℤ) (terms : List ℤ) → SumKnown env lits ends op constant terms
-    → SumReady env op constant terms (counts-of env)
-sum-ready env lits ends op constant terms s =
+pub sum-ready : (env : EncoderEnv) (lits ends op : ℕ) (constant : ℤ) (terms : List ℤ) → status-of (linear-checks env lits ends op constant terms) ≡ 0
+    → {at : Counts} → at ≡ counts-of env → SumReady env op constant terms at
+sum-ready env lits ends op constant terms h e =
+    let s = sum-known env lits ends op constant terms h in
     let a = s .arguments in
     let k = a .holds in
-    record {
+    rw e
+    (record {
       terms-ready = terms-ready env lits ends op constant terms a;
       constant-up = omega (arith, a .constant-small);
       constant-down = omega (arith, a .constant-small);
@@ -40,4 +46,15 @@ sum-ready env lits ends op constant terms s =
       lits-fit = omega (arith, k .literals-in, k .lits-max);
       clauses-fit = omega (arith, k .clauses-in, k .ends-max);
       heights = s .heights;
+    })
+
+abbrev pub sum-call : (env : EncoderEnv) (lits ends op : ℕ) (constant : ℤ) (terms : List ℤ) → Call env lits ends
+sum-call env lits ends op constant terms =
+    let out = sum-encoded env op constant terms in
+    record {
+      checks = linear-checks env lits ends op constant terms;
+      numbered = numbered env lits ends op constant terms;
+      holds = λ h. sum-known env lits ends op constant terms h .arguments .holds;
+      clauses = out .clauses;
+      job = grown env (out .vars) (out .clauses);
     }

@@ -14,8 +14,8 @@ use Rattle.log_linear.specs.EncodeLinearLog.{encode-linear-log}
 use Rattle.log_linear.specs.Size.{linear-log-reached}
 use Rattle.encoder_env.specs.declared.EncoderEnv.{EncoderEnv}
 use Rattle.encoder_env.specs.WellFormed.{all-below, eqz, int-map, lez, well-formed}
-use Rattle.encoder_answer.specs.Adding.{adding, grown}
-use Rattle.encoder_answer.specs.Outcome.{Check, Outcome, check, status-of}
+use Rattle.encoder_answer.specs.Adding.{adding, grown, rule-status}
+use Rattle.encoder_answer.specs.Outcome.{Check, Outcome, check}
 
 -- Terms --------------------------------------------------------------------------------------------------------------
 
@@ -82,7 +82,11 @@ linear-checks env lits ends op constant terms =
 abbrev pub sum-encoded : EncoderEnv → ℕ → ℤ → List ℤ → EncodedRule
 sum-encoded env op constant terms = encode-linear-log (int-map env) (op-of op) constant (terms-of terms) (env .variables)
 
+-- the number of all checks
+abbrev pub linear-status : EncoderEnv → ℕ → ℕ → ℕ → ℤ → List ℤ → ℕ
+linear-status env lits ends op constant terms = rule-status (linear-checks env lits ends op constant terms) env lits ends (sum-encoded env op constant terms)
+
 abbrev pub linear-outcome : EncoderEnv → List ℕ → List ℕ → ℕ → ℤ → List ℤ → Outcome
 linear-outcome env lits ends op constant terms =
     let out = sum-encoded env op constant terms in
-    adding (status-of (linear-checks env (length lits) (length ends) op constant terms)) env lits ends (out .clauses) (grown env (out .vars) (out .clauses))
+    adding (linear-checks env (length lits) (length ends) op constant terms) env lits ends (out .clauses) (grown env (out .vars) (out .clauses))

@@ -3,7 +3,7 @@ ghost use mathlib.Core.Path.{_≡_};
 ghost use Rattle.encoder_answer.specs.Outcome.{Answers, status-of};
 ghost use Rattle.encoder_answer.specs.Sizes.{RuleSize};
 ghost use Rattle.encoder_linear.specs.Ready.{SumReady};
-ghost use Rattle.encoder_linear.specs.Sums.{argument-checks, coef-fits, coefs-fit, constant-fits, linear-checks, linear-outcome, setting-known, settings-known, settings-rise, sum-encoded, terms-paired};
+ghost use Rattle.encoder_linear.specs.Sums.{argument-checks, coef-fits, coefs-fit, constant-fits, linear-checks, linear-outcome, linear-status, setting-known, settings-known, settings-rise, sum-encoded, terms-paired};
 use clause_set::Counts;
 use encoder_answer::Answer;
 use encoder_answer::counts_of;
@@ -151,7 +151,7 @@ pub fn argument_status(
 }
 
 // The checks of a sum, but for space.
-fn linear_status(
+fn linear_checks(
     env: EncoderEnv,
     lits: usize,
     ends: usize,
@@ -173,22 +173,16 @@ fn linear_status(
 }
 
 // What a sum takes: nothing is lent, so nothing is written.
-fn linear_size(
-    env: EncoderEnv,
-    lits: &mut [u32],
-    ends: &mut [u32],
-    op: u32,
-    constant: i32,
-    terms: &[i32],
-    at: Counts,
-) -> RuleCounts
+fn linear_size(env: EncoderEnv, op: u32, constant: i32, terms: &[i32], at: Counts) -> RuleCounts
     requires { ⌜ SumReady env op constant (now terms) at ⌝ }
-    ensures { λ r. ⌜ (now (lits .exit) ≡ now (lits .entry)) × (now (ends .exit) ≡ now (ends .entry)) × RuleSize (sum-encoded env op constant (now (terms .entry))) at r ⌝ }
+    ensures { λ r. ⌜ RuleSize (sum-encoded env op constant (now (terms .entry))) at r ⌝ }
 {
+    let mut lits = [0u32; 0];
+    let mut ends = [0u32; 0];
     let encodings = env.encodings;
     encode_linear_log(
-        &mut lits[..0],
-        &mut ends[..0],
+        &mut lits,
+        &mut ends,
         encodings,
         op,
         constant,
@@ -196,6 +190,26 @@ fn linear_size(
         env.variables,
         at,
     )
+}
+
+// The checks of a sum.
+fn linear_status(
+    env: EncoderEnv,
+    lits: usize,
+    ends: usize,
+    op: u32,
+    constant: i32,
+    terms: &[i32],
+) -> u32
+    ensures { λ r. ⌜ r ≡ linear-status env lits ends op constant (now (terms .entry)) ⌝ }
+{
+    let status = linear_checks(env, lits, ends, op, constant, terms);
+    if status != 0 {
+        return status;
+    }
+    let at = counts_of(env);
+    let size = linear_size(env, op, constant, terms, at);
+    space_status(size.vars, size.used, lits, ends)
 }
 
 // A rule: the constant plus every coefficient times its setting is 0 (operation 0), not 0 (1), at least 0 (2). The terms are one list:
@@ -215,11 +229,6 @@ pub fn encode_linear(
         return refusal(env, status);
     }
     let at = counts_of(env);
-    let size = linear_size(env, lits, ends, op, constant, terms, at);
-    let space = space_status(size.vars, size.used, lits.len(), ends.len());
-    if space != 0 {
-        return refusal(env, space);
-    }
     let encodings = env.encodings;
     let new = encode_linear_log(
         lits,

@@ -4,7 +4,7 @@ use mathlib.Core.Bool.{_&&_, false, not}
 use mathlib.Core.List.{List}
 use Prim.Native.Nat.{_<_, ℕ}
 use native.Mathlib.Omega.{arith}
-use lib.Dec.{ltb}
+use lib.Dec.{lit<, ltb}
 use lib.ListN.{length}
 use borrow.Author.Tests.{ltb-true, not-true}
 use Rattle.sat.specs.Clause.{Assignment}
@@ -19,10 +19,10 @@ use Rattle.encoder_env.proofs.Tests.{both}
 use Rattle.encoder_answer.specs.Adding.{grown}
 use Rattle.encoder_mul.specs.Encoded.{MulEncodes}
 use Rattle.encoder_answer.specs.Encoded.{RuleEncodes, number}
-use Rattle.encoder_answer.specs.Outcome.{status-of}
+use Rattle.encoder_answer.specs.Outcome.{Check, status-of}
 use Rattle.encoder_mul.specs.Products.{mul-checks, mul-outcome, product-encoded, product-reached}
 use Rattle.encoder_answer.proofs.Adding.{RuleAdded, known, rule-encodes}
-use Rattle.encoder_answer.proofs.Statuses.{passed}
+use Rattle.encoder_answer.proofs.Statuses.{Numbered, passed}
 
 module _ (env : EncoderEnv) (lits ends x y m : ℕ) where
   -- a product that passed the checks
@@ -48,6 +48,9 @@ module _ (env : EncoderEnv) (lits ends x y m : ℕ) where
         heights = not-true (too-tall (product-reached env x y m)) (t .0);
       }
 
+  pub numbered : Numbered (mul-checks env lits ends x y m)
+  numbered = (lit< tt, (lit< tt, (lit< tt, tt)))
+
   factor : Kept env lits ends → (i : ℕ) → i < env .count → Factor (env .variables) (int-map env i)
   factor k i h =
       let r = in-use env lits ends i k h in
@@ -57,21 +60,21 @@ module _ (env : EncoderEnv) (lits ends : List ℕ) (x y m : ℕ) where
   abbrev Rule : Assignment → Type 0
   Rule α = MulHolds (number env α) x y m
 
-  abbrev status : ℕ
-  status = status-of (mul-checks env (length lits) (length ends) x y m)
+  abbrev checks : List Check
+  checks = mul-checks env (length lits) (length ends) x y m
 
   pub product-added : mul-outcome env lits ends x y m .status ≡ 0
-      → ProductKnown env (length lits) (length ends) x y m × RuleAdded status env lits ends (product-encoded env x y m) Rule
+      → ProductKnown env (length lits) (length ends) x y m × RuleAdded checks env lits ends (product-encoded env x y m) Rule
   product-added h =
       let out = product-encoded env x y m in
-      let a = known status env lits ends (out .clauses) (grown env (out .vars) (out .clauses)) h in
+      let a = known checks env lits ends (out .clauses) (grown env (out .vars) (out .clauses)) (numbered env (length lits) (length ends) x y m) h in
       let p = product-known env (length lits) (length ends) x y m (a .passed-all) in
       let f = factor env (length lits) (length ends) x y m (p .holds) in
       let says = encode-mul-log-encodes (int-map env) x y m (env .variables) (f x (p .x-known)) (f y (p .y-known)) (f m (p .m-known)) in
       (p, record { holds = p .holds; accepted = a; says = says })
 
   encoded : RuleEncodes env (mul-outcome env lits ends x y m) Rule
-  encoded h = rule-encodes status env lits ends (product-encoded env x y m) Rule (product-added h .1)
+  encoded h = rule-encodes checks env lits ends (product-encoded env x y m) Rule (product-added h .1)
 
 pub mul-encodes : MulEncodes
 mul-encodes = encoded

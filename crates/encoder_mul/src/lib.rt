@@ -3,7 +3,7 @@ ghost use mathlib.Core.Path.{_≡_};
 ghost use Rattle.encoder_answer.specs.Outcome.{Answers, status-of};
 ghost use Rattle.encoder_mul.specs.Ready.{MulReady};
 ghost use Rattle.encoder_answer.specs.Sizes.{RuleSize};
-ghost use Rattle.encoder_mul.specs.Products.{mul-checks, mul-outcome, product-encoded};
+ghost use Rattle.encoder_mul.specs.Products.{mul-checks, mul-outcome, mul-status, product-encoded};
 use clause_set::Counts;
 use encoder_answer::Answer;
 use encoder_answer::counts_of;
@@ -17,7 +17,7 @@ use log_product::encode_mul_log;
 use log_product::mul_height;
 
 // The checks of a product, but for space.
-fn mul_status(env: EncoderEnv, lits: usize, ends: usize, x: u32, y: u32, m: u32) -> u32
+fn mul_checks(env: EncoderEnv, lits: usize, ends: usize, x: u32, y: u32, m: u32) -> u32
     ensures { λ r. ⌜ r ≡ status-of (mul-checks env lits ends x y m) ⌝ }
 {
     if !well_formed(env, lits, ends) {
@@ -40,29 +40,27 @@ fn mul_status(env: EncoderEnv, lits: usize, ends: usize, x: u32, y: u32, m: u32)
 }
 
 // What a product takes: nothing is lent, so nothing is written.
-fn mul_size(
-    env: EncoderEnv,
-    lits: &mut [u32],
-    ends: &mut [u32],
-    x: u32,
-    y: u32,
-    m: u32,
-    at: Counts,
-) -> RuleCounts
+fn mul_size(env: EncoderEnv, x: u32, y: u32, m: u32, at: Counts) -> RuleCounts
     requires { ⌜ MulReady env x y m at ⌝ }
-    ensures { λ r. ⌜ (now (lits .exit) ≡ now (lits .entry)) × (now (ends .exit) ≡ now (ends .entry)) × RuleSize (product-encoded env x y m) at r ⌝ }
+    ensures { λ r. ⌜ RuleSize (product-encoded env x y m) at r ⌝ }
 {
+    let mut lits = [0u32; 0];
+    let mut ends = [0u32; 0];
     let encodings = env.encodings;
-    encode_mul_log(
-        &mut lits[..0],
-        &mut ends[..0],
-        encodings,
-        x,
-        y,
-        m,
-        env.variables,
-        at,
-    )
+    encode_mul_log(&mut lits, &mut ends, encodings, x, y, m, env.variables, at)
+}
+
+// The checks of a product.
+fn mul_status(env: EncoderEnv, lits: usize, ends: usize, x: u32, y: u32, m: u32) -> u32
+    ensures { λ r. ⌜ r ≡ mul-status env lits ends x y m ⌝ }
+{
+    let status = mul_checks(env, lits, ends, x, y, m);
+    if status != 0 {
+        return status;
+    }
+    let at = counts_of(env);
+    let size = mul_size(env, x, y, m, at);
+    space_status(size.vars, size.used, lits, ends)
 }
 
 // A rule: setting x times setting y is setting m.
@@ -81,11 +79,6 @@ pub fn encode_mul(
         return refusal(env, status);
     }
     let at = counts_of(env);
-    let size = mul_size(env, lits, ends, x, y, m, at);
-    let space = space_status(size.vars, size.used, lits.len(), ends.len());
-    if space != 0 {
-        return refusal(env, space);
-    }
     let encodings = env.encodings;
     let new = encode_mul_log(lits, ends, encodings, x, y, m, env.variables, at);
     rule_accepted(env, new)

@@ -24,9 +24,9 @@ use Rattle.encoder_env.proofs.Kept.{all-at}
 use Rattle.encoder_env.proofs.Records.{all-true, encoding-more, record-fits}
 use Rattle.encoder_var.specs.Settings.{setting-checks, setting-outcome, with-encoding}
 use Rattle.encoder_var.specs.Encoded.{SettingEncodes, added-var}
-use Rattle.encoder_answer.specs.Outcome.{Outcome, status-of}
+use Rattle.encoder_answer.specs.Outcome.{Check, Outcome}
 use Rattle.encoder_answer.proofs.Adding.{Accepted, clauses-are, known, still-well-formed}
-use Rattle.encoder_var.proofs.Settings.{Admitted, admitted}
+use Rattle.encoder_var.proofs.Settings.{Admitted, admitted, numbered}
 
 module _ (env : EncoderEnv) (lits ends : List ℕ) (repr : IntVarRepresentation) where
   abbrev out : EncodedVar
@@ -35,17 +35,17 @@ module _ (env : EncoderEnv) (lits ends : List ℕ) (repr : IntVarRepresentation)
   abbrev job : EncoderEnv
   job = with-encoding env out
 
-  abbrev status : ℕ
-  status = status-of (setting-checks env (length lits) (length ends) repr)
+  abbrev checks : List Check
+  checks = setting-checks env (length lits) (length ends) repr
 
   -- what an accepted call had, and what it left
   pub record Added : Type 0 where
     pub had : Admitted env (length lits) (length ends) repr
-    pub accepted : Accepted status env lits ends (out .clauses) job
+    pub accepted : Accepted checks env lits ends (out .clauses) job
 
   pub added : setting-outcome env lits ends repr .status ≡ 0 → Added
   added h =
-      let a = known status env lits ends (out .clauses) job h in
+      let a = known checks env lits ends (out .clauses) job (numbered env (length lits) (length ends) repr) h in
       record { had = admitted env (length lits) (length ends) repr (a .passed-all); accepted = a }
 
   module _ (a : Added) (long : length (env .encodings) ≡ 32) where
@@ -62,7 +62,7 @@ module _ (env : EncoderEnv) (lits ends : List ℕ) (repr : IntVarRepresentation)
     pub var-is : added-var env (setting-outcome env lits ends repr) ≡ out
     var-is =
         let o = setting-outcome env lits ends repr in
-        let back = clauses-are status env lits ends (out .clauses) job (a .accepted) refl in
+        let back = clauses-are checks env lits ends (out .clauses) job (a .accepted) refl in
         let job-is : o .env ≡ job = ap (λ (x : Outcome). x .env) (a .accepted .outcome-is) in
         λ i. record {
           encoding = (ap (λ (e : EncoderEnv). encoding-of (encoding-at e (env .count))) job-is ∙ ap encoding-of new-record ∙ encoding-back (out .encoding)) i;
@@ -98,7 +98,7 @@ module _ (env : EncoderEnv) (lits ends : List ℕ) (repr : IntVarRepresentation)
     pub setting-well-formed : (let after = add-clauses 0 (out .clauses) (stores lits ends (env .literals) (env .clauses)) in
         well-formed job (length (after .lits)) (length (after .ends)) ≡ true)
     setting-well-formed =
-        still-well-formed status env lits ends (out .clauses) job (a .accepted) refl (a .had .holds) refl (encodes .grows) refl
+        still-well-formed checks env lits ends (out .clauses) job (a .accepted) refl (a .had .holds) refl (encodes .grows) refl
         (omega (arith, a .had .free)) (all-true (record-holds job) 32 record-still)
 
 pub setting-encodes : SettingEncodes

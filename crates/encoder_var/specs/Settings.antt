@@ -11,8 +11,8 @@ use Rattle.log_var.specs.EncodeVarLog.{EncodedVar, encode-var-log}
 use Rattle.log_var.specs.Record.{record-of}
 use Rattle.encoder_env.specs.declared.EncoderEnv.{EncoderEnv}
 use Rattle.encoder_env.specs.WellFormed.{all-below, bounds-hold, code-fits, in-range, well-formed}
-use Rattle.encoder_answer.specs.Adding.{adding, grown, with-record}
-use Rattle.encoder_answer.specs.Outcome.{Check, Outcome, check, status-of}
+use Rattle.encoder_answer.specs.Adding.{adding, adding-status, grown, with-record}
+use Rattle.encoder_answer.specs.Outcome.{Check, Outcome, check}
 
 abbrev pub all-in-range : List ℤ → Bool
 all-in-range ks = all-below (length ks) (λ i. in-range (getD ks i (pos 0)))
@@ -42,8 +42,14 @@ setting-checks env lits ends repr =
 abbrev pub with-encoding : EncoderEnv → EncodedVar → EncoderEnv
 with-encoding env out = with-record (grown env (out .vars) (out .clauses)) (record-of (out .encoding))
 
+-- the number of all checks
+abbrev pub setting-status : EncoderEnv → ℕ → ℕ → IntVarRepresentation → ℕ
+setting-status env lits ends repr =
+    let out = encode-var-log repr (env .variables) in
+    adding-status (setting-checks env lits ends repr) env lits ends (out .vars) (out .clauses)
+
 -- a range, a list or two values: what `encode-var-log` gives
 abbrev pub setting-outcome : EncoderEnv → List ℕ → List ℕ → IntVarRepresentation → Outcome
 setting-outcome env lits ends repr =
     let out = encode-var-log repr (env .variables) in
-    adding (status-of (setting-checks env (length lits) (length ends) repr)) env lits ends (out .clauses) (with-encoding env out)
+    adding (setting-checks env (length lits) (length ends) repr) env lits ends (out .clauses) (with-encoding env out)

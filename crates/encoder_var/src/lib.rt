@@ -5,7 +5,7 @@ ghost use Prim.Native.Nat.{_+_, _^_, _<_};
 ghost use Rattle.norm_csp.specs.Domain.{binary, list, range};
 ghost use Rattle.log_var.specs.Calls.{Ready};
 ghost use Rattle.encoder_answer.specs.Outcome.{Answers, status-of};
-ghost use Rattle.encoder_var.specs.Settings.{all-in-range, rising, setting-checks, setting-outcome};
+ghost use Rattle.encoder_var.specs.Settings.{all-in-range, rising, setting-checks, setting-outcome, setting-status};
 ghost use Rattle.encoder_var.specs.Sizes.{SizeOf, job-after};
 use clause_set::Counts;
 use encoder_answer::Answer;
@@ -40,7 +40,7 @@ fn accepted(env: EncoderEnv, new: EncodedVar) -> Answer
 }
 
 // The checks of a range, but for space.
-fn range_status(env: EncoderEnv, lits: usize, ends: usize, low: i32, high: i32) -> u32
+fn range_checks(env: EncoderEnv, lits: usize, ends: usize, low: i32, high: i32) -> u32
     ensures { λ r. ⌜ r ≡ status-of (setting-checks env lits ends (range low high)) ⌝ }
 {
     if !well_formed(env, lits, ends) {
@@ -56,18 +56,26 @@ fn range_status(env: EncoderEnv, lits: usize, ends: usize, low: i32, high: i32) 
 }
 
 // What a range takes: nothing is lent, so nothing is written.
-fn range_size(
-    lits: &mut [u32],
-    ends: &mut [u32],
-    low: i32,
-    high: i32,
-    vars: u32,
-    at: Counts,
-) -> EncodedVar
+fn range_size(low: i32, high: i32, vars: u32, at: Counts) -> EncodedVar
     requires { ⌜ Ready (range low high) vars at ⌝ }
-    ensures { λ r. ⌜ (now (lits .exit) ≡ now (lits .entry)) × (now (ends .exit) ≡ now (ends .entry)) × SizeOf (range low high) vars at r ⌝ }
+    ensures { λ r. ⌜ SizeOf (range low high) vars at r ⌝ }
 {
-    log_var::encode_range(&mut lits[..0], &mut ends[..0], low, high, vars, at)
+    let mut lits = [0u32; 0];
+    let mut ends = [0u32; 0];
+    log_var::encode_range(&mut lits, &mut ends, low, high, vars, at)
+}
+
+// The checks of a range.
+fn range_status(env: EncoderEnv, lits: usize, ends: usize, low: i32, high: i32) -> u32
+    ensures { λ r. ⌜ r ≡ setting-status env lits ends (range low high) ⌝ }
+{
+    let status = range_checks(env, lits, ends, low, high);
+    if status != 0 {
+        return status;
+    }
+    let at = counts_of(env);
+    let size = range_size(low, high, env.variables, at);
+    space_status(size.vars, size.used, lits, ends)
 }
 
 // A new setting: the whole numbers from `low` to `high`.
@@ -85,11 +93,6 @@ pub fn encode_range(
         return refusal(env, status);
     }
     let at = counts_of(env);
-    let size = range_size(lits, ends, low, high, env.variables, at);
-    let space = space_status(size.vars, size.used, lits.len(), ends.len());
-    if space != 0 {
-        return refusal(env, space);
-    }
     let new = log_var::encode_range(lits, ends, low, high, env.variables, at);
     accepted(env, new)
 }
@@ -126,7 +129,7 @@ fn is_rising(values: &[i32]) -> bool
 }
 
 // The checks of a list, but for space.
-fn list_status(env: EncoderEnv, lits: usize, ends: usize, values: &[i32]) -> u32
+fn list_checks(env: EncoderEnv, lits: usize, ends: usize, values: &[i32]) -> u32
     ensures { λ r. ⌜ r ≡ status-of (setting-checks env lits ends (list (now (values .entry)))) ⌝ }
 {
     if !well_formed(env, lits, ends) {
@@ -157,17 +160,26 @@ fn list_status(env: EncoderEnv, lits: usize, ends: usize, values: &[i32]) -> u32
 }
 
 // What a list takes.
-fn list_size(
-    lits: &mut [u32],
-    ends: &mut [u32],
-    values: &[i32],
-    vars: u32,
-    at: Counts,
-) -> EncodedVar
+fn list_size(values: &[i32], vars: u32, at: Counts) -> EncodedVar
     requires { ⌜ Ready (list (now values)) vars at ⌝ }
-    ensures { λ r. ⌜ (now (lits .exit) ≡ now (lits .entry)) × (now (ends .exit) ≡ now (ends .entry)) × SizeOf (list (now (values .entry))) vars at r ⌝ }
+    ensures { λ r. ⌜ SizeOf (list (now (values .entry))) vars at r ⌝ }
 {
-    log_var::encode_list(&mut lits[..0], &mut ends[..0], values, vars, at)
+    let mut lits = [0u32; 0];
+    let mut ends = [0u32; 0];
+    log_var::encode_list(&mut lits, &mut ends, values, vars, at)
+}
+
+// The checks of a list.
+fn list_status(env: EncoderEnv, lits: usize, ends: usize, values: &[i32]) -> u32
+    ensures { λ r. ⌜ r ≡ setting-status env lits ends (list (now (values .entry))) ⌝ }
+{
+    let status = list_checks(env, lits, ends, values);
+    if status != 0 {
+        return status;
+    }
+    let at = counts_of(env);
+    let size = list_size(values, env.variables, at);
+    space_status(size.vars, size.used, lits, ends)
 }
 
 // A new setting: one of the values.
@@ -179,17 +191,12 @@ pub fn encode_list(env: EncoderEnv, lits: &mut [u32], ends: &mut [u32], values: 
         return refusal(env, status);
     }
     let at = counts_of(env);
-    let size = list_size(lits, ends, values, env.variables, at);
-    let space = space_status(size.vars, size.used, lits.len(), ends.len());
-    if space != 0 {
-        return refusal(env, space);
-    }
     let new = log_var::encode_list(lits, ends, values, env.variables, at);
     accepted(env, new)
 }
 
 // The checks of two values, but for space.
-fn binary_status(env: EncoderEnv, lits: usize, ends: usize, cond: Lit, f: i32, t: i32) -> u32
+fn binary_checks(env: EncoderEnv, lits: usize, ends: usize, cond: Lit, f: i32, t: i32) -> u32
     ensures { λ r. ⌜ r ≡ status-of (setting-checks env lits ends (binary (cond .0) f t)) ⌝ }
 {
     if !well_formed(env, lits, ends) {
@@ -217,19 +224,26 @@ fn binary_status(env: EncoderEnv, lits: usize, ends: usize, cond: Lit, f: i32, t
 }
 
 // What two values take.
-fn binary_size(
-    lits: &mut [u32],
-    ends: &mut [u32],
-    cond: Lit,
-    f: i32,
-    t: i32,
-    vars: u32,
-    at: Counts,
-) -> EncodedVar
+fn binary_size(cond: Lit, f: i32, t: i32, vars: u32, at: Counts) -> EncodedVar
     requires { ⌜ Ready (binary (cond .0) f t) vars at ⌝ }
-    ensures { λ r. ⌜ (now (lits .exit) ≡ now (lits .entry)) × (now (ends .exit) ≡ now (ends .entry)) × SizeOf (binary (cond .0) f t) vars at r ⌝ }
+    ensures { λ r. ⌜ SizeOf (binary (cond .0) f t) vars at r ⌝ }
 {
-    log_var::encode_binary(&mut lits[..0], &mut ends[..0], cond, f, t, vars, at)
+    let mut lits = [0u32; 0];
+    let mut ends = [0u32; 0];
+    log_var::encode_binary(&mut lits, &mut ends, cond, f, t, vars, at)
+}
+
+// The checks of two values.
+fn binary_status(env: EncoderEnv, lits: usize, ends: usize, cond: Lit, f: i32, t: i32) -> u32
+    ensures { λ r. ⌜ r ≡ setting-status env lits ends (binary (cond .0) f t) ⌝ }
+{
+    let status = binary_checks(env, lits, ends, cond, f, t);
+    if status != 0 {
+        return status;
+    }
+    let at = counts_of(env);
+    let size = binary_size(cond, f, t, env.variables, at);
+    space_status(size.vars, size.used, lits, ends)
 }
 
 // A new setting: t where the switch literal holds, else f.
@@ -248,11 +262,6 @@ pub fn encode_binary(
         return refusal(env, status);
     }
     let at = counts_of(env);
-    let size = binary_size(lits, ends, cond, f, t, env.variables, at);
-    let space = space_status(size.vars, size.used, lits.len(), ends.len());
-    if space != 0 {
-        return refusal(env, space);
-    }
     let new = log_var::encode_binary(lits, ends, cond, f, t, env.variables, at);
     accepted(env, new)
 }

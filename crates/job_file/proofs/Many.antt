@@ -11,10 +11,10 @@ use borrow.Author.Tests.{le-leb, lt-leb}
 use Rattle.norm_csp.specs.Domain.{list}
 use Rattle.encoder_env.specs.declared.EncoderEnv.{EncoderEnv}
 use Rattle.encoder_env.specs.WellFormed.{well-formed}
-use Rattle.encoder_answer.specs.Outcome.{refused, status-of}
+use Rattle.encoder_answer.specs.Outcome.{refused}
 use Rattle.encoder_answer.proofs.Statuses.{settled-refused}
-use Rattle.encoder_linear.specs.Sums.{linear-checks, linear-outcome}
-use Rattle.encoder_var.specs.Settings.{setting-checks, setting-outcome}
+use Rattle.encoder_linear.specs.Sums.{linear-outcome, linear-status}
+use Rattle.encoder_var.specs.Settings.{setting-outcome, setting-status}
 use Rattle.job_file.specs.Numbers.{terms, values}
 
 pub values-length : (s : List ℕ) → length (values s) ≡ length s / 2
@@ -40,7 +40,7 @@ module _ (env : EncoderEnv) (lits ends : List ℕ) where
 
   list-refused : (ks : List ℤ) → 64 < length ks → setting-outcome env lits ends (list ks) ≡ refused (cond well 4 1) env lits ends
   list-refused ks h =
-      settled-refused (cond well 4 1) (status-of (setting-checks env (length lits) (length ends) (list ks)))
+      settled-refused (cond well 4 1) (setting-status env (length lits) (length ends) (list ks))
       (rw (le-leb 1 (length ks) (omega arith), lt-leb (length ks) 64 h)) env lits ends _ (list-number well)
 
   pub many-values : (ks js : List ℤ) → 64 < length ks → 64 < length js → setting-outcome env lits ends (list ks) ≡ setting-outcome env lits ends (list js)
@@ -54,7 +54,7 @@ module _ (env : EncoderEnv) (lits ends : List ℕ) where
   module _ (op : ℕ) (constant : ℤ) where
     sum-refused : (ts : List ℤ) → 12 < length ts → linear-outcome env lits ends op constant ts ≡ refused (cond well (cond (ltb op 3) 9 12) 1) env lits ends
     sum-refused ts h =
-        settled-refused (cond well (cond (ltb op 3) 9 12) 1) (status-of (linear-checks env (length lits) (length ends) op constant ts))
+        settled-refused (cond well (cond (ltb op 3) 9 12) 1) (linear-status env (length lits) (length ends) op constant ts)
         (rw (lt-leb (length ts) 12 h)) env lits ends _ (sum-number well (ltb op 3))
 
     pub many-terms : (ts us : List ℤ) → 12 < length ts → 12 < length us → linear-outcome env lits ends op constant ts ≡ linear-outcome env lits ends op constant us

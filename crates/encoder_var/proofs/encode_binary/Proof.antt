@@ -1,57 +1,51 @@
 -- `encoder::encode_binary` meets its contract.
 use borrow.Author.Needs.{needs}
-use mathlib.Core.Path.{_≡_, _∙_, sym}
 use lib.ListN.{length}
 use mir.Syntax.{w32}
+use mir.Val.{ofZ, toZ}
 use mir.ValLaws.{toZ-ofZ}
-use Rattle.clause_set.specs.Stores.{after}
 use Rattle.norm_csp.specs.Domain.{binary}
-use Rattle.log_var.specs.Calls.{VarAdded}
-use Rattle.encoder_var.specs.Settings.{setting-checks}
-use Rattle.encoder_answer.specs.Outcome.{status-of}
-use Rattle.encoder_var.specs.Sizes.{SizeOf}
-use Rattle.encoder_answer.specs.Adding.{counts-of}
-use Rattle.encoder_var.proofs.Settings.{Admitted, setting-counts-fit, binary-admitted, setting-added, setting-refused, setting-without-space}
+use Rattle.encoder_answer.proofs.Answering.{Call, all-passed, call-refused}
+use Rattle.encoder_var.proofs.Settings.{setting-added, setting-call, setting-fits, setting-ready}
 use Rattle.encoder_var.proofs.encode_binary.Statement.{statement}
 use Rattle.encoder_var.proofs.encode_binary.Tie as tie
 
+-- the call, as the callees have it
+abbrev call : (s : tie.Start) → Call (s .args .env) (length (s .args .lits .now)) (length (s .args .ends .now))
+call s = let a = s .args in setting-call (a .env) (length (a .lits .now)) (length (a .ends .now)) (binary (a .cond .0) (toZ w32 (ofZ w32 (a .f))) (toZ w32 (ofZ w32 (a .t))))
+
 binary-status-requires : tie.Need-binary-status-requires
 binary-status-requires c κs = search needs
-
--- the number of the checks but for space
-checked : (c : tie.After-binary-status) → let a = c .before .before .before .args in c .binary-status .result ≡ status-of (setting-checks (a .env) (length (a .lits .now)) (length (a .ends .now)) (binary (a .cond .0) (a .f) (a .t)))
-checked c = let s = c .before .before .before in c .binary-status .ensures ∙ rw (toZ-ofZ w32 (s .args .f) (s .fits .f), toZ-ofZ w32 (s .args .t) (s .fits .t))
-
-admitted : (c : tie.Else1) → let a = c .before .before .before .before .args in Admitted (a .env) (length (a .lits .now)) (length (a .ends .now)) (binary (a .cond .0) (a .f) (a .t))
-admitted c = let a = c .before .before .before .before .args in binary-admitted (a .env) (length (a .lits .now)) (length (a .ends .now)) (a .cond .0) (a .f) (a .t) (sym (checked (c .before)) ∙ c .if1 .left)
 
 refusal-requires : tie.Need-refusal-requires
 refusal-requires c κs = search needs
 
 returns : tie.Need-returns
 returns c =
-    let a = c .before .before .before .before .before .args in
-    setting-refused (a .env) (a .lits .now) (a .ends .now) (binary (a .cond .0) (a .f) (a .t)) _ (checked (c .before .before)) _ (c .before .if1 .taken) (c .refusal .ensures)
+    let t = c .before .before in
+    let s = t .before .before .before in
+    let a = s .args in
+    rw (toZ-ofZ w32 (a .f) (s .fits .f), toZ-ofZ w32 (a .t) (s .fits .t)) at (call-refused (a .lits .now) (a .ends .now) (call s) (t .binary-status .ensures) (c .before .if1 .taken) (c .refusal .ensures))
 
 counts-of-requires : tie.Need-counts-of-requires
 counts-of-requires c κs = search needs
 
-binary-size-requires : tie.Need-binary-size-requires
-binary-size-requires c κs =
-    let s = c .before .before .before .before .before .before .before in
-    rw (toZ-ofZ w32 (s .args .f) (s .fits .f), toZ-ofZ w32 (s .args .t) (s .fits .t), c .before .before .counts-of .ensures) (admitted (c .before .before .before) .ready)
+encode-binary-requires : tie.Need-encode-binary-requires
+encode-binary-requires c κs =
+    let n = c .before .before in
+    let t = n .before .before in
+    let s = t .before .before .before in
+    let a = s .args in
+    setting-ready (a .env) (length (a .lits .now)) (length (a .ends .now)) (binary (a .cond .0) (toZ w32 (ofZ w32 (a .f))) (toZ w32 (ofZ w32 (a .t)))) (all-passed (call s) (t .binary-status .ensures) (n .before .if1 .left)) (n .counts-of .ensures)
 
--- what counting gives
-size-is : (c : tie.After-binary-size) → let a = c .before .before .before .before .before .before .before .before .args in SizeOf (binary (a .cond .0) (a .f) (a .t)) (a .env .variables) (counts-of (a .env)) (c .binary-size .result)
-size-is c =
-    let s = c .before .before .before .before .before .before .before .before in
-    rw (← toZ-ofZ w32 (s .args .f) (s .fits .f), ← toZ-ofZ w32 (s .args .t) (s .fits .t), ← c .before .before .before .counts-of .ensures) (c .binary-size .ensures .2)
-
-space-status-requires : tie.Need-space-status-requires
-space-status-requires c κs = search needs
-
-refusal-requires-2 : tie.Need-refusal-requires-2
-refusal-requires-2 c κs = search needs
+accepted-requires : tie.Need-accepted-requires
+accepted-requires c κs =
+    let w = c .before .before .before .before in
+    let n = w .before .before .before in
+    let t = n .before .before in
+    let s = t .before .before .before in
+    let a = s .args in
+    setting-fits (a .env) (a .lits .now) (a .ends .now) (binary (a .cond .0) (toZ w32 (ofZ w32 (a .f))) (toZ w32 (ofZ w32 (a .t)))) (t .binary-status .ensures) (n .before .if1 .left) (n .counts-of .ensures) (w .encode-binary .ensures)
 
 same-length : tie.Need-same-length
 same-length c = search needs
@@ -61,45 +55,12 @@ same-length-2 c = search needs
 
 returns-2 : tie.Need-returns-2
 returns-2 c =
-    let a = c .before .before .before .before .before .before .before .before .before .before .before .before .before .before .before .args in
-    let m = c .before .before .before .before .before .before .before .binary-size in
-    setting-without-space (a .env) (a .lits .now) (a .ends .now) (binary (a .cond .0) (a .f) (a .t)) _ (checked (c .before .before .before .before .before .before .before .before .before .before .before .before)) (c .before .before .before .before .before .before .before .before .before .before .before .if1 .left) _ _ (size-is (c .before .before .before .before .before .before .before)) _ _ (m .ensures .0) (m .ensures .1) _
-    (c .before .before .space-status .ensures) _ (c .before .if2 .taken) (c .refusal2 .ensures)
-
-encode-binary-requires : tie.Need-encode-binary-requires
-encode-binary-requires c κs =
-    let s = c .before .before .before .before .before .before .before .before .before .before .before .before .before .before .before .before in
-    rw (toZ-ofZ w32 (s .args .f) (s .fits .f), toZ-ofZ w32 (s .args .t) (s .fits .t), c .before .before .before .before .before .before .before .before .before .before .before .counts-of .ensures) (admitted (c .before .before .before .before .before .before .before .before .before .before .before .before) .ready)
-
--- what writing adds
-added : (c : tie.After-encode-binary) → let a = c .before .before .before .before .before .before .before .before .before .before .before .before .before .before .before .before .before .args in
-    VarAdded (binary (a .cond .0) (a .f) (a .t)) (a .env .variables) (after (c .before .before .before .before .before .before .before .before .before .binary-size .last .0) (c .before .before .before .before .before .before .before .before .before .binary-size .last .1 .0) (counts-of (a .env)))
-    (c .encode-binary .result) (after (c .encode-binary .last .0) (c .encode-binary .last .1 .0) (c .encode-binary .result .used))
-added c =
-    let s = c .before .before .before .before .before .before .before .before .before .before .before .before .before .before .before .before .before in
-    rw (toZ-ofZ w32 (s .args .f) (s .fits .f), toZ-ofZ w32 (s .args .t) (s .fits .t), c .before .before .before .before .before .before .before .before .before .before .before .before .counts-of .ensures) at (c .encode-binary .ensures)
-
-accepted-requires : tie.Need-accepted-requires
-accepted-requires c κs =
-    let a = c .before .before .before .before .before .before .before .before .before .before .before .before .before .before .before .before .before .before .before .before .before .args in
-    let m = c .before .before .before .before .before .before .before .before .before .before .before .before .before .binary-size in
-    let d = admitted (c .before .before .before .before .before .before .before .before .before .before .before .before .before .before .before .before .before) in
-    let f = setting-counts-fit (a .env) (a .lits .now) (a .ends .now) (binary (a .cond .0) (a .f) (a .t)) _ (checked (c .before .before .before .before .before .before .before .before .before .before .before .before .before .before .before .before .before .before)) (c .before .before .before .before .before .before .before .before .before .before .before .before .before .before .before .before .before .if1 .left) _ _ (size-is (c .before .before .before .before .before .before .before .before .before .before .before .before .before)) _ _ (m .ensures .0) (m .ensures .1) _
-    (c .before .before .before .before .before .before .before .before .space-status .ensures) (c .before .before .before .before .before .before .before .if2 .left) _ _ _ (added (c .before .before .before .before)) (d .holds) in
-    (d .free, f .0, f .1)
-
-same-length-3 : tie.Need-same-length-3
-same-length-3 c = search needs
-
-same-length-4 : tie.Need-same-length-4
-same-length-4 c = search needs
-
-returns-3 : tie.Need-returns-3
-returns-3 c =
-    let a = c .before .before .before .before .before .before .before .before .before .before .before .before .before .before .before .before .before .before .before .before .before .before .args in
-    let m = c .before .before .before .before .before .before .before .before .before .before .before .before .before .before .binary-size in
-    setting-added (a .env) (a .lits .now) (a .ends .now) (binary (a .cond .0) (a .f) (a .t)) _ (checked (c .before .before .before .before .before .before .before .before .before .before .before .before .before .before .before .before .before .before .before)) (c .before .before .before .before .before .before .before .before .before .before .before .before .before .before .before .before .before .before .if1 .left) _ _ (size-is (c .before .before .before .before .before .before .before .before .before .before .before .before .before .before)) _ _ (m .ensures .0) (m .ensures .1) _
-    (c .before .before .before .before .before .before .before .before .before .space-status .ensures) (c .before .before .before .before .before .before .before .before .if2 .left) _ _ _ (added (c .before .before .before .before .before)) _ (c .accepted .ensures)
+    let w = c .before .before .before .before .before in
+    let n = w .before .before .before in
+    let t = n .before .before in
+    let s = t .before .before .before in
+    let a = s .args in
+    rw (toZ-ofZ w32 (a .f) (s .fits .f), toZ-ofZ w32 (a .t) (s .fits .t)) at (setting-added (a .env) (a .lits .now) (a .ends .now) (binary (a .cond .0) (toZ w32 (ofZ w32 (a .f))) (toZ w32 (ofZ w32 (a .t)))) (t .binary-status .ensures) (n .before .if1 .left) (n .counts-of .ensures) (w .encode-binary .ensures) (c .accepted .ensures))
 
 pub encode-binary-spec : {M : Type 1} → statement M
 encode-binary-spec =
@@ -109,14 +70,8 @@ encode-binary-spec =
     refusal-requires
     returns
     counts-of-requires
-    binary-size-requires
-    space-status-requires
-    refusal-requires-2
-    same-length
-    same-length-2
-    returns-2
     encode-binary-requires
     accepted-requires
-    same-length-3
-    same-length-4
-    returns-3)
+    same-length
+    same-length-2
+    returns-2)

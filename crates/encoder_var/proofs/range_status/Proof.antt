@@ -1,45 +1,47 @@
 -- `encoder::range_status` meets its contract.
 use borrow.Author.Needs.{needs}
-use borrow.Author.Tests.{le-ltb, lt-ltb, not-false, not-true}
-use mathlib.Core.Path.{_≡_, _∙_, sym}
-use mathlib.Core.Bool.{true}
+use mathlib.Core.Path.{_∙_, sym}
 use mir.Syntax.{w32}
+use mir.Val.{ofZ, toZ}
 use mir.ValLaws.{toZ-ofZ}
-use Rattle.encoder_env.specs.WellFormed.{bounds-hold, well-formed}
+use Rattle.norm_csp.specs.Domain.{range}
+use Rattle.encoder_answer.proofs.Answering.{Call, refused-before, space-settles}
+use Rattle.encoder_var.proofs.Settings.{setting-call, setting-ready}
 use Rattle.encoder_var.proofs.range_status.Statement.{statement}
 use Rattle.encoder_var.proofs.range_status.Tie as tie
 
-well-formed-requires : tie.Need-well-formed-requires
-well-formed-requires c κs = search needs
+-- the call, as the callees have it
+abbrev call : (s : tie.Start) → Call (s .args .env) (s .args .lits) (s .args .ends)
+call s = let a = s .args in setting-call (a .env) (a .lits) (a .ends) (range (toZ w32 (ofZ w32 (a .low))) (toZ w32 (ofZ w32 (a .high))))
+
+range-checks-requires : tie.Need-range-checks-requires
+range-checks-requires c κs = search needs
 
 returns : tie.Need-returns
-returns c = let w = c .before .well-formed in rw (← w .ensures, not-true (w .result) (c .if1 .taken))
+returns c =
+    let s = c .before .before in
+    let a = s .args in
+    rw (toZ-ofZ w32 (a .low) (s .fits .low), toZ-ofZ w32 (a .high) (s .fits .high)) at (refused-before (call s) (c .before .range-checks .ensures) (c .if1 .taken))
 
--- the job is well formed
-held : (c : tie.Else1) → let a = c .before .before .args in well-formed (a .env) (a .lits) (a .ends) ≡ true
-held c = sym (c .before .well-formed .ensures) ∙ not-false _ (c .if1 .left)
+counts-of-requires : tie.Need-counts-of-requires
+counts-of-requires c κs = search needs
 
--- the answer of `bounds_hold`
-bounds : (c : tie.After-bounds-hold) → let a = c .before .before .before .args in c .bounds-hold .result ≡ bounds-hold (a .low) (a .high)
-bounds c = let s = c .before .before .before in c .bounds-hold .ensures ∙ rw (toZ-ofZ w32 (s .args .low) (s .fits .low), toZ-ofZ w32 (s .args .high) (s .fits .high))
+range-size-requires : tie.Need-range-size-requires
+range-size-requires c κs =
+    let t = c .before .before in
+    let a = t .before .args in
+    setting-ready (a .env) (a .lits) (a .ends) (range (toZ w32 (ofZ w32 (a .low))) (toZ w32 (ofZ w32 (a .high)))) (sym (t .range-checks .ensures) ∙ c .before .if1 .left) (c .counts-of .ensures)
 
-bounds-hold-requires : tie.Need-bounds-hold-requires
-bounds-hold-requires c κs = search needs
+space-status-requires : tie.Need-space-status-requires
+space-status-requires c κs = search needs
 
 returns-2 : tie.Need-returns-2
-returns-2 c = rw (held (c .before .before), ← bounds (c .before), not-true (c .before .bounds-hold .result) (c .if2 .taken))
-
-returns-3 : tie.Need-returns-3
-returns-3 c =
-    let a = c .before .before .before .before .before .before .args in
-    rw (held (c .before .before .before .before), ← bounds (c .before .before .before), not-false (c .before .before .before .bounds-hold .result) (c .before .before .if2 .left), le-ltb (a .env .count) 32 (c .if3 .taken))
-
-returns-4 : tie.Need-returns-4
-returns-4 c =
-    let a = c .before .before .before .before .before .before .args in
-    rw (held (c .before .before .before .before), ← bounds (c .before .before .before), not-false (c .before .before .before .bounds-hold .result) (c .before .before .if2 .left), lt-ltb (a .env .count) 32 (c .if3 .left))
+returns-2 c =
+    let n = c .before .before in
+    let t = n .before .before in
+    let s = t .before in
+    let a = s .args in
+    rw (toZ-ofZ w32 (a .low) (s .fits .low), toZ-ofZ w32 (a .high) (s .fits .high)) at (space-settles (call s) (t .range-checks .ensures) (n .before .if1 .left) (n .counts-of .ensures) (c .before .range-size .ensures) (c .space-status .ensures))
 
 pub range-status-spec : {M : Type 1} → statement M
-range-status-spec =
-    tie.close
-    (tie.spec well-formed-requires returns bounds-hold-requires returns-2 returns-3 returns-4)
+range-status-spec = tie.close (tie.spec range-checks-requires returns counts-of-requires range-size-requires space-status-requires returns-2)
