@@ -5,6 +5,7 @@ use mathlib.Core.List.{List, [], _++_, _∷_}
 use Prim.Native.Nat.{_<_, suc, ℕ}
 use lib.Dec.{eqb}
 use lib.IntN.{pos}
+use lib.ListN.{drop}
 use native.Mathlib.Omega.{arith}
 use borrow.Author.Tests.{eqb-false, eqb-true, ne-eqb}
 use Rattle.encoder_env.specs.declared.EncoderEnv.{EncoderEnv}
@@ -30,6 +31,10 @@ module _ (r status : ℕ) (s : r ≡ status) (env : EncoderEnv) (lits ends : Lis
   -- an acceptance
   pub accepts : (a : Answer) (l e : List ℕ) → r ≡ 0 → Answers ok a l e → Answers (settled status env lits ends ok) a l e
   accepts a l e h k = rw (settled-accepted h) k
+
+-- the first n checks hold: the number is that of the rest
+abbrev pub FirstHold : ℕ → List Check → Type 0
+FirstHold n cs = status-of cs ≡ status-of (drop n cs)
 
 -- Checks one list after another --------------------------------------------------------------------------------------
 

@@ -6,7 +6,6 @@ use lib.ListN.{length, set}
 use mathlib.Core.Bool.{_&&_}
 use mathlib.Core.List.{List, [], _++_, _∷_}
 use Rattle.sat.specs.Clause.{Clauses}
-use Rattle.sat.specs.Encoded.{EncodedRule}
 use Rattle.sat.specs.Size.{entries}
 use Rattle.clause_set.specs.Stores.{add-clauses, stores}
 use Rattle.clause_set.specs.declared.Counts.{Counts}
@@ -64,10 +63,6 @@ added env lits ends clauses job =
 -- the number of all checks: these, and then those of space
 abbrev pub adding-status : List Check → EncoderEnv → ℕ → ℕ → ℕ → Clauses → ℕ
 adding-status checks env lits ends vars clauses = status-of (checks ++ space-for env lits ends vars clauses)
-
--- of a rule
-abbrev pub rule-status : List Check → EncoderEnv → ℕ → ℕ → EncodedRule → ℕ
-rule-status checks env lits ends out = adding-status checks env lits ends (out .vars) (out .clauses)
 
 -- the clauses and the job after them, where all checks hold
 abbrev pub adding : List Check → EncoderEnv → List ℕ → List ℕ → Clauses → EncoderEnv → Outcome

@@ -14,7 +14,7 @@ use Rattle.log_linear.specs.EncodeLinearLog.{encode-linear-log}
 use Rattle.log_linear.specs.Size.{linear-log-reached}
 use Rattle.encoder_env.specs.declared.EncoderEnv.{EncoderEnv}
 use Rattle.encoder_env.specs.WellFormed.{all-below, eqz, int-map, lez, well-formed}
-use Rattle.encoder_answer.specs.Adding.{adding, grown, rule-status}
+use Rattle.encoder_answer.specs.Adding.{adding, adding-status, grown}
 use Rattle.encoder_answer.specs.Outcome.{Check, Outcome, check}
 
 -- Terms --------------------------------------------------------------------------------------------------------------
@@ -84,7 +84,9 @@ sum-encoded env op constant terms = encode-linear-log (int-map env) (op-of op) c
 
 -- the number of all checks
 abbrev pub linear-status : EncoderEnv → ℕ → ℕ → ℕ → ℤ → List ℤ → ℕ
-linear-status env lits ends op constant terms = rule-status (linear-checks env lits ends op constant terms) env lits ends (sum-encoded env op constant terms)
+linear-status env lits ends op constant terms =
+    let out = sum-encoded env op constant terms in
+    adding-status (linear-checks env lits ends op constant terms) env lits ends (out .vars) (out .clauses)
 
 abbrev pub linear-outcome : EncoderEnv → List ℕ → List ℕ → ℕ → ℤ → List ℤ → Outcome
 linear-outcome env lits ends op constant terms =

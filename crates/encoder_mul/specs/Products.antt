@@ -11,7 +11,7 @@ use Rattle.log_mul.specs.EncodeMulLog.{encode-mul-log}
 use Rattle.log_mul.specs.Size.{mul-reached}
 use Rattle.encoder_env.specs.declared.EncoderEnv.{EncoderEnv}
 use Rattle.encoder_env.specs.WellFormed.{int-map, well-formed}
-use Rattle.encoder_answer.specs.Adding.{adding, grown, rule-status}
+use Rattle.encoder_answer.specs.Adding.{adding, adding-status, grown}
 use Rattle.encoder_answer.specs.Outcome.{Check, Outcome, check}
 
 -- the columns reached, over the bit counts and offsets of the settings
@@ -32,7 +32,9 @@ product-encoded env x y m = encode-mul-log (int-map env) x y m (env .variables)
 
 -- the number of all checks
 abbrev pub mul-status : EncoderEnv → ℕ → ℕ → ℕ → ℕ → ℕ → ℕ
-mul-status env lits ends x y m = rule-status (mul-checks env lits ends x y m) env lits ends (product-encoded env x y m)
+mul-status env lits ends x y m =
+    let out = product-encoded env x y m in
+    adding-status (mul-checks env lits ends x y m) env lits ends (out .vars) (out .clauses)
 
 abbrev pub mul-outcome : EncoderEnv → List ℕ → List ℕ → ℕ → ℕ → ℕ → Outcome
 mul-outcome env lits ends x y m =
