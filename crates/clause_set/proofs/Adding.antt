@@ -8,6 +8,7 @@ use native.Mathlib.Omega.{arith}
 use lib.ListN.{length, take, getD, set, length-append, length-map}
 use lib.Seq.{sets, take-suc, length-take-le}
 use Rattle.sat.specs.Size.{entries}
+use Rattle.sat.proofs.Size.{entries-append}
 use Rattle.clause_set.specs.declared.Counts.{Counts}
 use Rattle.sat.specs.declared.Lit.{Lit}
 use Rattle.clause_set.specs.declared.Clause.{Clause}
@@ -41,10 +42,6 @@ clause-size c e h = length-map (take (c .len) (c .lits)) num ∙ length-take-le 
 pub add-append : (b : ℕ) (cs ds : List (List ℕ)) (s : Stores) → add-clauses b (cs ++ ds) s ≡ add-clauses b ds (add-clauses b cs s)
 add-append b [] ds s = refl
 add-append b (c ∷ cs) ds s = add-append b cs ds (add-clause b c s)
-
-pub entries-append : (cs ds : List (List ℕ)) → entries (cs ++ ds) ≡ entries cs + entries ds
-entries-append [] ds = omega arith
-entries-append (c ∷ cs) ds = omega (arith, entries-append cs ds)
 
 pub used-after : (b : ℕ) (cs : List (List ℕ)) (s : Stores) → add-clauses b cs s .used ≡ s .used + entries cs
 unfolding add-clause

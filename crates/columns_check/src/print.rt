@@ -1,5 +1,4 @@
 // What is printed: numbers, and clauses as the stores hold them.
-ghost use mathlib.Core.Path.{_≡_};
 ghost use Prim.Native.Nat.{_≤_, _<_};
 use clause_set::Counts;
 use clause_set::entry;

@@ -15,7 +15,8 @@ use Rattle.sat.specs.Encodes.{Agree, ClausesBelow}
 use Rattle.sat.proofs.Number.{code-agree}
 use Rattle.sat.specs.Size.{entries}
 use Rattle.clause_set.specs.Stores.{Sound, add-clauses, clauses-of, stores}
-use Rattle.clause_set.proofs.Adding.{count-after, entries-append, used-after}
+use Rattle.sat.proofs.Size.{entries-append}
+use Rattle.clause_set.proofs.Adding.{count-after, used-after}
 use Rattle.clause_set.proofs.ReadBack.{read-back}
 use Rattle.norm_csp.specs.NormCsp.{NormCsp, Satisfied, begun}
 use Rattle.norm_csp.proofs.NormCsp.{Known}

@@ -1,7 +1,7 @@
 -- The invariants of the adder's two loops: to go on from here comes to what the whole would have given from the start.
 use mathlib.Core.Path.{_≡_, refl, ap, sym, _∙_}
 use mathlib.Core.Bool.{false}
-use mathlib.Core.List.{List, [], _∷_, map}
+use mathlib.Core.List.{List, [], map}
 use Prim.Native.Nat.{ℕ, _+_, _-_, _/_, _%_, _≤_, _<_}
 use native.Mathlib.Nat.{sub-zero}
 use native.Mathlib.Omega.{arith}
@@ -138,9 +138,3 @@ module _ {d₀ e₀ : List ℕ} {s₀ : AdderState} {d e : List ℕ} {s : AdderS
       let n = go .count in
       then-no-more (after d e (s .used)) (state-bits s) (s .vars)
       ∙ sym (go .same ∙ ap (then (after d e (s .used)) (state-bits s)) (extend-end (s₀ .len + s₀ .carry .count - s .len) (s .carry) (s .vars) (omega arith)))
-
--- Counting -----------------------------------------------------------------------------------------------------------
-
-pub no-length : (l : List ℕ) → length l ≡ 0 → l ≡ []
-no-length [] e = refl
-no-length (x ∷ xs) e = absurd (omega arith)

@@ -9,7 +9,7 @@ use lib.ListN.{length, length-append, length-map}
 use Rattle.sat.specs.Clause.{Clauses}
 use Rattle.sat.specs.Lit.{neg}
 use Rattle.sat.specs.Size.{entries}
-use Rattle.clause_set.proofs.Adding.{entries-append}
+use Rattle.sat.proofs.Size.{entries-append}
 use Rattle.mixed.specs.Enumerate.{bounded, enumerate}
 use Rattle.mixed.specs.Terms.{Term, flip, singles, term}
 use Rattle.mixed.proofs.Bound.{bounded-count, bounded-total, sizes}

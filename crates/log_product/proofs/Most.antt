@@ -9,7 +9,8 @@ use Rattle.sat.specs.Encoded.{EncodedBits}
 use Rattle.sat.specs.Size.{entries}
 use Rattle.clause_set.specs.Stores.{Stores, after}
 use Rattle.clause_set.specs.declared.Counts.{Counts}
-use Rattle.clause_set.proofs.Adding.{count-after, entries-append, used-after}
+use Rattle.sat.proofs.Size.{entries-append}
+use Rattle.clause_set.proofs.Adding.{count-after, used-after}
 use Rattle.log_adder.specs.Adder.{adder}
 use Rattle.log_adder.specs.Gather.{Grid, pad-columns}
 use Rattle.log_adder.specs.Size.{ColumnShape, column-shape, pad-shapes, reached, too-tall}

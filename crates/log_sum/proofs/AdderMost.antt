@@ -2,14 +2,14 @@
 use mathlib.Core.Path.{_≡_}
 use mathlib.Core.Bool.{false}
 use mathlib.Core.List.{List, [], _∷_, map}
-use Prim.Native.Nat.{ℕ, zero, suc, _+_, _-_, _*_, _/_, _≤_}
+use Prim.Native.Nat.{ℕ, zero, suc, _+_, _*_, _/_, _≤_}
 use native.Mathlib.Omega.{arith}
 use lib.ListN.{length, length-append}
 use Rattle.sat.specs.Encoded.{EncodedBits}
 use Rattle.sat.specs.Fresh.{fresh}
 use Rattle.sat.specs.Size.{entries}
 use Rattle.sat.proofs.Fresh.{length-fresh}
-use Rattle.clause_set.proofs.Adding.{entries-append}
+use Rattle.sat.proofs.Size.{entries-append}
 use Rattle.log_adder.specs.Adder.{AdderColumn, add-column, adder, carry-size, empty-column, extend, result, result-vars, tail}
 use Rattle.log_adder.specs.Column.{column}
 use Rattle.log_adder.specs.Gather.{Grid, with-constant}

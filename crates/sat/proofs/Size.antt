@@ -12,6 +12,10 @@ pub weight-append : (weigh : ℕ → ℕ) (a b : Clauses) → weight-of weigh (a
 weight-append weigh [] b = omega arith
 weight-append weigh (c ∷ a) b = omega (arith, weight-append weigh a b)
 
+pub entries-append : (cs ds : Clauses) → entries (cs ++ ds) ≡ entries cs + entries ds
+entries-append [] ds = omega arith
+entries-append (c ∷ cs) ds = omega (arith, entries-append cs ds)
+
 -- the two counts
 pub weight-length : (cs : Clauses) → weight-of (λ d. 1) cs ≡ length cs
 weight-length [] = refl

@@ -21,7 +21,6 @@ pub use rules::product_of;
 pub use rules::sum_of;
 ghost use mathlib.Core.Path.{_≡_};
 ghost use Prim.Native.Nat.{_≤_};
-ghost use lib.ListN.{length};
 ghost use Rattle.script.specs.Run.{Lent};
 
 // What is kept from line to line.

@@ -1,4 +1,4 @@
--- `encoder::rule_accepted` meets its contract.
+-- `encoder_answer::rule_accepted` meets its contract.
 use borrow.Author.Needs.{needs}
 use mathlib.Core.Path.{ap}
 use lib.IntN.{pos}

@@ -1,4 +1,4 @@
--- `encoder::space_status` meets its contract.
+-- `encoder_answer::space_status` meets its contract.
 use borrow.Author.Tests.{le-leb, lt-leb}
 use Prim.Native.Nat.{_+_}
 use native.Mathlib.Omega.{arith}

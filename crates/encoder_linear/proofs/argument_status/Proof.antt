@@ -1,4 +1,4 @@
--- `encoder::sums::argument_status` meets its contract.
+-- `encoder_linear::argument_status` meets its contract.
 use borrow.Author.Needs.{needs}
 use borrow.Author.Tests.{le-ltb, lt-ltb, not-false, not-true}
 use mathlib.Core.Path.{_≡_, _∙_, ap, sym}

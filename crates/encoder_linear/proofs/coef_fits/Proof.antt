@@ -1,4 +1,4 @@
--- `encoder::sums::coef_fits` meets its contract.
+-- `encoder_linear::coef_fits` meets its contract.
 use borrow.Author.Needs.{needs}
 use borrow.Author.Tests.{eqb-false, eqb-true}
 use mathlib.Core.Path.{_≡_, ap, refl, sym}

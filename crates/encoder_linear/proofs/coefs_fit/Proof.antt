@@ -1,4 +1,4 @@
--- `encoder::sums::coefs_fit` meets its contract.
+-- `encoder_linear::coefs_fit` meets its contract.
 use borrow.Author.Needs.{needs}
 use borrow.Author.Tests.{not-false, not-true}
 use mathlib.Core.Path.{_≡_, _∙_, ap, refl, sym}

@@ -1,4 +1,4 @@
--- `encoder::sums::constant_fits` meets its contract.
+-- `encoder_linear::constant_fits` meets its contract.
 use borrow.Author.Needs.{needs}
 use Rattle.encoder_env.proofs.Tests.{signed-tests}
 use Rattle.encoder_linear.proofs.constant_fits.Statement.{statement}

@@ -1,4 +1,4 @@
--- `encoder::sums::encode_linear` meets its contract.
+-- `encoder_linear::encode_linear` meets its contract.
 use borrow.Author.Needs.{needs}
 use mathlib.Core.Path.{refl}
 use lib.ListN.{length}

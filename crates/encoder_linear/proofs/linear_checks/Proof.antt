@@ -1,4 +1,4 @@
--- `encoder::sums::linear_checks` meets its contract.
+-- `encoder_linear::linear_checks` meets its contract.
 use borrow.Author.Needs.{needs}
 use borrow.Author.Tests.{le-ltb, lt-ltb}
 use mathlib.Core.Path.{_≡_, _∙_, sym}

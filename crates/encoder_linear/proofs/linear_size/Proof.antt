@@ -1,4 +1,4 @@
--- `encoder::sums::linear_size` meets its contract.
+-- `encoder_linear::linear_size` meets its contract.
 use borrow.Author.Needs.{needs}
 use mir.Syntax.{w32}
 use mir.Val.{ofZ, toZ}

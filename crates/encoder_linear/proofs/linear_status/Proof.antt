@@ -1,4 +1,4 @@
--- `encoder::sums::linear_status` meets its contract.
+-- `encoder_linear::linear_status` meets its contract.
 use borrow.Author.Needs.{needs}
 use mathlib.Core.Path.{_∙_, sym}
 use mir.Syntax.{w32}

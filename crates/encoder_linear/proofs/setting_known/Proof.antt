@@ -1,4 +1,4 @@
--- `encoder::sums::setting_known` meets its contract.
+-- `encoder_linear::setting_known` meets its contract.
 use borrow.Author.Needs.{needs}
 use borrow.Author.Tests.{le-ltb, lt-ltb}
 use mathlib.Core.Path.{_≡_, _∙_, ap, refl, sym}

@@ -1,4 +1,4 @@
--- `encoder::sums::settings_known` meets its contract.
+-- `encoder_linear::settings_known` meets its contract.
 use borrow.Author.Needs.{needs}
 use borrow.Author.Tests.{not-false, not-true}
 use mathlib.Core.Path.{_≡_, _∙_, ap, refl, sym}

@@ -1,4 +1,4 @@
--- `encoder::sums::settings_rise` meets its contract.
+-- `encoder_linear::settings_rise` meets its contract.
 use borrow.Author.Needs.{needs}
 use mathlib.Core.Path.{_≡_, _∙_, ap, refl, sym}
 use mathlib.Core.Bool.{Bool, true}

@@ -1,4 +1,4 @@
--- `encoder::sums::terms_paired` meets its contract.
+-- `encoder_linear::terms_paired` meets its contract.
 use borrow.Author.Tests.{le-leb, lt-leb}
 use lib.ListN.{length}
 use Rattle.encoder_linear.proofs.terms_paired.Statement.{statement}

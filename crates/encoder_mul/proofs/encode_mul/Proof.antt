@@ -1,4 +1,4 @@
--- `encoder::products::encode_mul` meets its contract.
+-- `encoder_mul::encode_mul` meets its contract.
 use borrow.Author.Needs.{needs}
 use mathlib.Core.Path.{refl}
 use lib.ListN.{length}

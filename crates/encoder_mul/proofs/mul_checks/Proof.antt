@@ -1,4 +1,4 @@
--- `encoder::products::mul_checks` meets its contract.
+-- `encoder_mul::mul_checks` meets its contract.
 use borrow.Author.Needs.{needs}
 use borrow.Author.Tests.{le-ltb, lt-ltb, not-false, not-true}
 use mathlib.Core.Path.{_≡_, _∙_, sym}

@@ -1,4 +1,4 @@
--- `encoder::products::mul_size` meets its contract.
+-- `encoder_mul::mul_size` meets its contract.
 use borrow.Author.Needs.{needs}
 use Rattle.encoder_mul.specs.Products.{product-encoded}
 use Rattle.encoder_answer.proofs.Answering.{rule-sized}

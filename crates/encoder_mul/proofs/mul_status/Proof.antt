@@ -1,4 +1,4 @@
--- `encoder::products::mul_status` meets its contract.
+-- `encoder_mul::mul_status` meets its contract.
 use borrow.Author.Needs.{needs}
 use mathlib.Core.Path.{_∙_, sym}
 use Rattle.encoder_answer.proofs.Answering.{Call, refused-before, space-settles}

@@ -1,4 +1,4 @@
--- `encoder::all_bits` meets its contract.
+-- `encoder_read::all_bits` meets its contract.
 use borrow.Author.Needs.{needs}
 use borrow.Author.Tests.{le-leb, lt-leb}
 use mathlib.Core.Path.{_≡_, _∙_, ap, refl, sym}

@@ -1,4 +1,4 @@
--- `encoder::clause` meets its contract.
+-- `encoder_read::clause` meets its contract.
 use borrow.Author.Needs.{needs}
 use mathlib.Core.Path.{_∙_, ap, sym}
 use Prim.Native.Nat.{ℕ}

@@ -1,4 +1,4 @@
--- `encoder::clause_status` meets its contract.
+-- `encoder_read::clause_status` meets its contract.
 use borrow.Author.Needs.{needs}
 use borrow.Author.Tests.{le-leb, le-ltb, lt-leb, lt-ltb, not-false, not-true}
 use mathlib.Core.Path.{_≡_, _∙_, sym}

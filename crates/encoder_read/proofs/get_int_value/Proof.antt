@@ -1,4 +1,4 @@
--- `encoder::get_int_value` meets its contract.
+-- `encoder_read::get_int_value` meets its contract.
 use borrow.Author.Needs.{needs}
 use mathlib.Core.Path.{_∙_, refl, sym}
 use Prim.Native.Nat.{_<_}

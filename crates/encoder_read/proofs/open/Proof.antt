@@ -1,4 +1,4 @@
--- `encoder::open` meets its contract.
+-- `encoder_read::open` meets its contract.
 use borrow.Author.Needs.{needs}
 use mathlib.Core.Path.{_∙_, ap, refl}
 use lib.IntN.{pos}

@@ -1,4 +1,4 @@
--- `encoder::open_status` meets its contract.
+-- `encoder_read::open_status` meets its contract.
 use borrow.Author.Needs.{needs}
 use borrow.Author.Tests.{not-false, not-true}
 use mathlib.Core.Path.{_≡_, _∙_, sym}

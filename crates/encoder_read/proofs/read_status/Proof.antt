@@ -1,4 +1,4 @@
--- `encoder::read_status` meets its contract.
+-- `encoder_read::read_status` meets its contract.
 use borrow.Author.Needs.{needs}
 use borrow.Author.Tests.{eq-eqb, le-ltb, lt-ltb, ne-eqb, not-false, not-true}
 use mathlib.Core.Path.{_≡_, _∙_, sym}

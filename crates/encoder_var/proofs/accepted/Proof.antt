@@ -1,4 +1,4 @@
--- `encoder::accepted` meets its contract.
+-- `encoder_var::accepted` meets its contract.
 use borrow.Author.Needs.{needs}
 use mathlib.Core.Path.{ap}
 use Prim.Native.Nat.{_+_}

@@ -1,4 +1,4 @@
--- `encoder::all_in_range` meets its contract.
+-- `encoder_var::all_in_range` meets its contract.
 use borrow.Author.Needs.{needs}
 use borrow.Author.Tests.{not-false, not-true}
 use mathlib.Core.Path.{_≡_, _∙_, ap, refl, sym}

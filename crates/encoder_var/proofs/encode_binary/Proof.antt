@@ -1,4 +1,4 @@
--- `encoder::encode_binary` meets its contract.
+-- `encoder_var::encode_binary` meets its contract.
 use borrow.Author.Needs.{needs}
 use lib.ListN.{length}
 use mir.Syntax.{w32}

@@ -1,4 +1,4 @@
--- `encoder::encode_list` meets its contract.
+-- `encoder_var::encode_list` meets its contract.
 use borrow.Author.Needs.{needs}
 use lib.ListN.{length}
 use Rattle.norm_csp.specs.Domain.{list}

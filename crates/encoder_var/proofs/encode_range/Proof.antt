@@ -1,4 +1,4 @@
--- `encoder::encode_range` meets its contract.
+-- `encoder_var::encode_range` meets its contract.
 use borrow.Author.Needs.{needs}
 use lib.ListN.{length}
 use mir.Syntax.{w32}

@@ -1,4 +1,4 @@
--- `encoder::is_rising` meets its contract.
+-- `encoder_var::is_rising` meets its contract.
 use borrow.Author.Needs.{needs}
 use mathlib.Core.Path.{_≡_, _∙_, ap, refl, sym}
 use mathlib.Core.Bool.{Bool, true}

@@ -1,4 +1,4 @@
--- `encoder::list_checks` meets its contract.
+-- `encoder_var::list_checks` meets its contract.
 use borrow.Author.Needs.{needs}
 use borrow.Author.Tests.{le-leb, le-ltb, lt-leb, lt-ltb, not-false, not-true}
 use mathlib.Core.Path.{_≡_, _∙_, sym}

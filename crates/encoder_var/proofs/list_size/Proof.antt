@@ -1,4 +1,4 @@
--- `encoder::list_size` meets its contract.
+-- `encoder_var::list_size` meets its contract.
 use borrow.Author.Needs.{needs}
 use Rattle.encoder_var.proofs.Settings.{sized}
 use Rattle.encoder_var.proofs.list_size.Statement.{statement}

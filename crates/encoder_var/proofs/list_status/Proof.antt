@@ -1,4 +1,4 @@
--- `encoder::list_status` meets its contract.
+-- `encoder_var::list_status` meets its contract.
 use borrow.Author.Needs.{needs}
 use mathlib.Core.Path.{_∙_, sym}
 use Rattle.norm_csp.specs.Domain.{list}

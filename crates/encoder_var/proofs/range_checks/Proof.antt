@@ -1,4 +1,4 @@
--- `encoder::range_checks` meets its contract.
+-- `encoder_var::range_checks` meets its contract.
 use borrow.Author.Needs.{needs}
 use borrow.Author.Tests.{le-ltb, lt-ltb, not-false, not-true}
 use mathlib.Core.Path.{_≡_, _∙_, sym}

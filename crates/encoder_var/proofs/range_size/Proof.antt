@@ -1,4 +1,4 @@
--- `encoder::range_size` meets its contract.
+-- `encoder_var::range_size` meets its contract.
 use borrow.Author.Needs.{needs}
 use mir.Syntax.{w32}
 use mir.ValLaws.{toZ-ofZ}

@@ -1,4 +1,4 @@
--- `encoder::range_status` meets its contract.
+-- `encoder_var::range_status` meets its contract.
 use borrow.Author.Needs.{needs}
 use mathlib.Core.Path.{_∙_, sym}
 use mir.Syntax.{w32}

@@ -1,3 +1,4 @@
+-- `job_print::print_file` meets its contract.
 use Rattle.job_print.proofs.Whole.{print-written, refusal-written}
 use borrow.Author.Needs.{needs}
 use Rattle.job_print.proofs.print_file.Statement.{statement}

@@ -1,4 +1,4 @@
--- `script::calls::clear` meets its contract.
+-- `script_state::clear` meets its contract.
 use Rattle.script_state.proofs.Tables.{Clearing, clearing-none, clearing-more, clearing-end}
 use lib.ListN.{length}
 use denote.Ref.{now}

@@ -1,4 +1,4 @@
--- `script::job::fits` meets its contract.
+-- `script_state::fits` meets its contract.
 use Rattle.script_state.proofs.Tables.{fits-signed, fits-unsigned}
 use denote.Ref.{now}
 use mathlib.Core.Path.{sym, _∙_}

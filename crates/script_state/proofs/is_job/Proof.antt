@@ -1,4 +1,4 @@
--- `script::job::is_job` meets its contract.
+-- `script_state::is_job` meets its contract.
 use Rattle.script_state.proofs.Tables.{job-short, job-tested}
 use Rattle.script_state.specs.Job.{fits}
 use Rattle.encoder_env.proofs.Tests.{all-more, all-fail}

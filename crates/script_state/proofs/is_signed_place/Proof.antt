@@ -1,4 +1,4 @@
--- `script::job::is_signed_place` meets its contract.
+-- `script_state::is_signed_place` meets its contract.
 use Rattle.script_state.proofs.Tables.{place-count, place-record}
 use Rattle.script_state.proofs.is_signed_place.Statement.{statement}
 use Rattle.script_state.proofs.is_signed_place.Tie as tie

@@ -1,4 +1,4 @@
--- `script::job::job_of` meets its contract.
+-- `script_state::job_of` meets its contract.
 use Rattle.script_state.proofs.Tables.{job-made}
 use denote.Ref.{now}
 use borrow.Author.Needs.{needs}

@@ -1,4 +1,4 @@
--- `script::job::lits_at` meets its contract.
+-- `script_state::lits_at` meets its contract.
 use Rattle.script_state.proofs.Tables.{Filling, filling-none, filling-more, filling-end}
 use Rattle.script_state.specs.Job.{lit-from, lits-from}
 use denote.Ref.{now}

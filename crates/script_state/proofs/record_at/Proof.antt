@@ -1,4 +1,4 @@
--- `script::job::record_at` meets its contract.
+-- `script_state::record_at` meets its contract.
 use Rattle.script_state.proofs.Tables.{record-made}
 use mir.ValLaws.{toZ-ofZ}
 use mir.Syntax.{w32}

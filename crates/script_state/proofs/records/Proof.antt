@@ -1,4 +1,4 @@
--- `script::job::records` meets its contract.
+-- `script_state::records` meets its contract.
 use Rattle.script_state.proofs.Tables.{Filling, filling-none, filling-more, filling-end}
 use Rattle.script_state.specs.Job.{record-from, records-from}
 use denote.Ref.{now}

@@ -1,4 +1,4 @@
--- `script::job::signed_or_0` meets its contract.
+-- `script_state::signed_or_0` meets its contract.
 use Rattle.script_state.specs.Job.{signed-value}
 use mir.ValLaws.{toZ-ofZ}
 use mir.Syntax.{w32}

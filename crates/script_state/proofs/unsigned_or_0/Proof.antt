@@ -1,4 +1,4 @@
--- `script::job::unsigned_or_0` meets its contract.
+-- `script_state::unsigned_or_0` meets its contract.
 use Rattle.script_state.specs.Job.{unsigned-value}
 use mathlib.Core.Path.{sym, ap, _∙_}
 use borrow.Author.Needs.{needs}

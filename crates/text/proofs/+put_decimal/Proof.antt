@@ -1,3 +1,4 @@
+-- `text::put_decimal` meets its contract.
 use borrow.Author.Needs.{needs}
 use Prim.Native.Nat.{ℕ, _<_}
 use Rattle.text.proofs.Numerals.{wrote-digit, wrote-digits}

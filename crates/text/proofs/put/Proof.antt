@@ -1,3 +1,4 @@
+-- `text::put` meets its contract.
 use borrow.Author.Needs.{needs}
 use Rattle.text.proofs.Laws.{put-within, put-past-end}
 use Rattle.text.proofs.put.Statement.{statement}

@@ -1,3 +1,4 @@
+-- `text::put_bytes` meets its contract.
 use borrow.Author.Needs.{needs}
 use Rattle.text.proofs.Laws.{rest-after-byte, rest-none}
 use Rattle.text.specs.Bytes.{text, write}

@@ -1,3 +1,4 @@
+-- `text::put_integer` meets its contract.
 use Rattle.text.proofs.Signs.{Negative, NotNegative, is-negative, is-not-negative, cast-fits, wrote-negative, wrote-not-negative}
 use mathlib.Core.Path.{ap}
 use lib.IntN.{natAbs}
