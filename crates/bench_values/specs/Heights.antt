@@ -4,7 +4,7 @@ use lib.Dec.{eqb, ltb}
 use lib.IntN.{ℤ}
 use mathlib.Core.Bool.{_&&_, cond}
 use mathlib.Core.List.{List}
-use Rattle.log_adder.specs.Size.{greatest-height}
+use Rattle.log_encoding.specs.AdderSize.{greatest-height}
 use Rattle.encoder_env.specs.declared.EncoderEnv.{EncoderEnv}
 use Rattle.encoder_env.specs.WellFormed.{well-formed}
 use Rattle.encoder_answer.specs.Outcome.{status-of}

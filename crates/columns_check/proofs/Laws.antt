@@ -9,14 +9,14 @@ use lib.ListN.{length, replicate, set, take, length-map, length-set, length-take
 use lib.Seq.{take-suc-set}
 use Rattle.sat.specs.declared.Lit.{Lit}
 use Rattle.mixed.specs.declared.LinearInfo.{LinearInfo}
-use Rattle.mixed.specs.Enumerate.{bounded}
-use Rattle.mixed.specs.Terms.{Term}
+use Rattle.log_encoding.specs.Enumerate.{bounded}
+use Rattle.log_encoding.specs.Terms.{Term}
 use Rattle.mixed.specs.Infos.{AllSmall, Small, info-term, infos-left, no-info, thresholds}
-use Rattle.mixed.proofs.Bound.{bounded-count, bounded-total, sizes}
+use Rattle.log_encoding.proofs.Bound.{bounded-count, bounded-total, sizes}
 use Rattle.clause_set.specs.declared.Counts.{Counts}
 use Rattle.clause_set.specs.Stores.{Fits}
 use Rattle.log_adder.proofs.ColumnTerms.{every-replicate, every-set}
-use Rattle.log_adder.specs.Gather.{Grid}
+use Rattle.log_encoding.specs.Gather.{Grid}
 use Rattle.log_gather.specs.Arrays.{Arrays, Few, Pushed}
 use Rattle.columns_check.specs.declared.Terms.{Terms}
 use Rattle.columns_check.specs.Input.{Gathered, TermsRead}

@@ -3,7 +3,7 @@ use Prim.Native.Nat.{ℕ, _≤_, _<_}
 use mathlib.Core.List.{List, map}
 use Rattle.sat.specs.declared.Lit.{Lit}
 use Rattle.mixed.specs.Infos.{AllSmall, info-term, infos-left}
-use Rattle.mixed.proofs.Bound.{sizes}
+use Rattle.log_encoding.proofs.Bound.{sizes}
 use Rattle.log_adder.specs.ColumnInfo.{AllLow}
 use Rattle.log_gather.specs.Arrays.{Arrays, Few}
 use Rattle.columns_check.specs.declared.Row.{Row}

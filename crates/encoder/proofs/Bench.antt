@@ -13,9 +13,9 @@ use Rattle.arithmetic.proofs.Integers.{same-read}
 use Rattle.arithmetic.proofs.Tests.{never}
 use Rattle.sat.specs.Clause.{Clauses, holds, sat}
 use Rattle.sat.specs.Lit.{neg}
-use Rattle.mixed.specs.Enumerate.{bounded, enumerate}
-use Rattle.log_adder.specs.Adder2.{eq-column}
-use Rattle.log_adder.specs.Column.{column}
+use Rattle.log_encoding.specs.Enumerate.{bounded, enumerate}
+use Rattle.log_encoding.specs.Adder2.{eq-column}
+use Rattle.log_encoding.specs.Column.{column}
 use Rattle.clause_set.specs.Stores.{add-clause}
 use Rattle.log_var.specs.Record.{pad}
 use Rattle.encoder_env.specs.WellFormed.{all-below, bounds-hold, encoding-at, encoding-holds, eqz, is-spare, lez, record-holds, stores-within, well-formed}

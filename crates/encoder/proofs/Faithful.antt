@@ -17,7 +17,7 @@ use Rattle.clause_set.proofs.Bytes.{all-hold-sat, bytes-unique, getD-within, to
 use Rattle.norm_csp.specs.Domain.{IntVarRepresentation, binary, list, range}
 use Rattle.norm_csp.specs.NormCsp.{Meets, NormCsp, Valuation, begun, number-of, switch-of}
 use Rattle.norm_csp.proofs.NormCsp.{satisfied-agree}
-use Rattle.log_var.specs.EncodeVarLog.{encode-var-log}
+use Rattle.log_encoding.specs.EncodeVarLog.{encode-var-log}
 use Rattle.log_var.specs.Record.{lits-of}
 use Rattle.log_var.proofs.Reading.{read-bytes-is}
 use Rattle.encoder_env.specs.WellFormed.{encoding-at}

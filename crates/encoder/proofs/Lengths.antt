@@ -9,7 +9,7 @@ use Rattle.sat.specs.Clause.{Clauses}
 use Rattle.clause_set.specs.Stores.{stores}
 use Rattle.clause_set.proofs.ReadBack.{kept-long}
 use Rattle.norm_csp.specs.Domain.{IntVarRepresentation, binary, list, range}
-use Rattle.log_var.specs.EncodeVarLog.{encode-var-log}
+use Rattle.log_encoding.specs.EncodeVarLog.{encode-var-log}
 use Rattle.encoder_env.specs.declared.EncoderEnv.{EncoderEnv}
 use Rattle.encoder_answer.specs.Adding.{added, adding, adding-status, grown}
 use Rattle.encoder_answer.specs.Outcome.{Check, Outcome, refused, settled, status-of}

@@ -15,9 +15,9 @@ use Rattle.sat.proofs.Extend.{agree-less, agree-trans, clauses-below-append, cl
 use Rattle.norm_csp.specs.Domain.{IntVarRepresentation, IsValue}
 use Rattle.norm_csp.specs.NormCsp.{NormCsp, Satisfied, add-var}
 use Rattle.norm_csp.proofs.NormCsp.{KnownVar, known-more, one-less, one-more, satisfied-agree, value-agree, vars-more}
-use Rattle.log_var.specs.EncodeVarLog.{EncodedVar, encode-var-log}
-use Rattle.log_var.specs.EncodesVar.{EncodesVar}
-use Rattle.log_var.specs.LogEncoding.{get-int-value}
+use Rattle.log_encoding.specs.EncodeVarLog.{EncodedVar, encode-var-log}
+use Rattle.log_encoding.specs.EncodesVar.{EncodesVar}
+use Rattle.log_encoding.specs.LogEncoding.{get-int-value}
 use Rattle.log_var.specs.Record.{encoding-of, record-of}
 use Rattle.log_var.specs.declared.LogEncoding.{LogEncoding as Encoding}
 use Rattle.log_var.proofs.Reading.{encoding-back}

@@ -5,7 +5,7 @@ use mathlib.Core.Path.{_≡_}
 use Rattle.sat.specs.Clause.{Assignment, Clauses}
 use Rattle.sat.specs.Encodes.{Any, Encodes}
 use Rattle.clause_set.specs.Stores.{clauses-after}
-use Rattle.log_var.specs.LogEncoding.{get-int-value}
+use Rattle.log_encoding.specs.LogEncoding.{get-int-value}
 use Rattle.encoder_env.specs.declared.EncoderEnv.{EncoderEnv}
 use Rattle.encoder_env.specs.WellFormed.{int-map}
 use Rattle.encoder_answer.specs.Outcome.{Outcome}

@@ -16,7 +16,7 @@ use Rattle.arithmetic.proofs.Integers.{apart-read, order-read}
 use Rattle.sat.specs.Encodes.{LitsBelow}
 use Rattle.sat.specs.declared.Lit.{Lit}
 use Rattle.sat.specs.LitArray.{lit, num}
-use Rattle.log_var.specs.LogEncoding.{LogEncoding}
+use Rattle.log_encoding.specs.LogEncoding.{LogEncoding}
 use Rattle.log_var.proofs.Bounds.{Recorded, codes-fit}
 use Rattle.log_var.specs.Record.{lits-of, pad, record-of}
 use Rattle.log_var.specs.declared.LogEncoding.{LogEncoding as Encoding}

@@ -10,7 +10,7 @@ use Rattle.sat.specs.LitArray.{lit}
 use Rattle.arithmetic.specs.Bits.{bit-length}
 use Rattle.arithmetic.specs.Offset.{code, offset-of}
 use Rattle.sat.specs.declared.Lit.{Lit}
-use Rattle.log_var.specs.LogEncoding.{LogEncoding as Setting}
+use Rattle.log_encoding.specs.LogEncoding.{LogEncoding as Setting}
 use Rattle.log_var.specs.Record.{int-map-of, record-at}
 use Rattle.log_var.specs.declared.LogEncoding.{LogEncoding}
 use Rattle.encoder_env.specs.declared.EncoderEnv.{EncoderEnv}

@@ -7,7 +7,7 @@ use lib.IntN.{ℤ}
 use lib.ListN.{length}
 use borrow.Author.Tests.{le-leb, lt-ltb}
 use Rattle.sat.specs.Size.{entries}
-use Rattle.log_adder.specs.Size.{too-tall}
+use Rattle.log_encoding.specs.AdderSize.{too-tall}
 use Rattle.encoder_env.specs.declared.EncoderEnv.{EncoderEnv}
 use Rattle.encoder_env.specs.WellFormed.{well-formed}
 use Rattle.encoder_linear.specs.Sums.{coefs-fit, constant-fits, linear-outcome, settings-known, settings-rise, sum-encoded, sum-reached, terms-paired}

@@ -14,9 +14,9 @@ use Rattle.arithmetic.proofs.Integers.{apart-read, less-read}
 use Rattle.sat.specs.Clause.{Assignment}
 use Rattle.sat.specs.Encodes.{Any, Encodes}
 use Rattle.norm_csp.specs.Rules.{LinearHolds, LinearTerm, op-of, terms-of}
-use Rattle.log_adder.specs.Size.{too-tall}
-use Rattle.log_linear.specs.EncodeLinearLog.{TermsBelow}
-use Rattle.log_linear.proofs.EncodeLinearLog.{InBounds, encode-linear-log-encodes, offset-constant-small}
+use Rattle.log_encoding.specs.AdderSize.{too-tall}
+use Rattle.log_encoding.specs.EncodeLinearLog.{TermsBelow}
+use Rattle.log_encoding.proofs.EncodeLinearLog.{InBounds, encode-linear-log-encodes, offset-constant-small}
 use Rattle.encoder_env.specs.declared.EncoderEnv.{EncoderEnv}
 use Rattle.encoder_env.specs.WellFormed.{eqz, int-map, lez, well-formed}
 use Rattle.encoder_env.proofs.Kept.{Kept, all-at, in-use, kept}

@@ -8,10 +8,10 @@ use mathlib.Core.Bool.{Bool, _&&_, not}
 use mathlib.Core.List.{List, [], _++_, _∷_}
 use Rattle.sat.specs.Encoded.{EncodedRule}
 use Rattle.norm_csp.specs.Rules.{op-of, terms-of}
-use Rattle.log_var.specs.Size.{setting-shape}
-use Rattle.log_adder.specs.Size.{Reached, too-tall}
-use Rattle.log_linear.specs.EncodeLinearLog.{encode-linear-log}
-use Rattle.log_linear.specs.Size.{linear-log-reached}
+use Rattle.log_encoding.specs.VarSize.{setting-shape}
+use Rattle.log_encoding.specs.AdderSize.{Reached, too-tall}
+use Rattle.log_encoding.specs.EncodeLinearLog.{encode-linear-log}
+use Rattle.log_encoding.specs.LinearSize.{linear-log-reached}
 use Rattle.encoder_env.specs.declared.EncoderEnv.{EncoderEnv}
 use Rattle.encoder_env.specs.WellFormed.{all-below, eqz, int-map, lez, well-formed}
 use Rattle.encoder_answer.specs.Adding.{adding, adding-status, grown}

@@ -9,8 +9,8 @@ use lib.ListN.{length}
 use borrow.Author.Tests.{ltb-true, not-true}
 use Rattle.sat.specs.Clause.{Assignment}
 use Rattle.norm_csp.specs.Rules.{MulHolds}
-use Rattle.log_adder.specs.Size.{too-tall}
-use Rattle.log_mul.proofs.EncodeMulLog.{Factor, encode-mul-log-encodes}
+use Rattle.log_encoding.specs.AdderSize.{too-tall}
+use Rattle.log_encoding.proofs.EncodeMulLog.{Factor, encode-mul-log-encodes}
 use Rattle.encoder_env.specs.declared.EncoderEnv.{EncoderEnv}
 use Rattle.encoder_env.specs.WellFormed.{int-map, well-formed}
 use Rattle.encoder_env.proofs.Kept.{Kept, in-use, kept}

@@ -5,10 +5,10 @@ use lib.ListN.{length}
 use mathlib.Core.Bool.{_&&_, not}
 use mathlib.Core.List.{List, [], _∷_}
 use Rattle.sat.specs.Encoded.{EncodedRule}
-use Rattle.log_var.specs.Size.{setting-shape}
-use Rattle.log_adder.specs.Size.{Reached, too-tall}
-use Rattle.log_mul.specs.EncodeMulLog.{encode-mul-log}
-use Rattle.log_mul.specs.Size.{mul-reached}
+use Rattle.log_encoding.specs.VarSize.{setting-shape}
+use Rattle.log_encoding.specs.AdderSize.{Reached, too-tall}
+use Rattle.log_encoding.specs.EncodeMulLog.{encode-mul-log}
+use Rattle.log_encoding.specs.MulSize.{mul-reached}
 use Rattle.encoder_env.specs.declared.EncoderEnv.{EncoderEnv}
 use Rattle.encoder_env.specs.WellFormed.{int-map, well-formed}
 use Rattle.encoder_answer.specs.Adding.{adding, adding-status, grown}

@@ -3,7 +3,7 @@ use Prim.Native.Nat.{_≤_, ℕ}
 use mathlib.Core.Bool.{false}
 use mathlib.Core.Path.{_≡_}
 use Rattle.clause_set.specs.declared.Counts.{Counts}
-use Rattle.log_adder.specs.Size.{too-tall}
+use Rattle.log_encoding.specs.AdderSize.{too-tall}
 use Rattle.log_product.specs.Ready.{ProductsReady}
 use Rattle.encoder_env.specs.declared.EncoderEnv.{EncoderEnv}
 use Rattle.encoder_mul.specs.Products.{product-reached}

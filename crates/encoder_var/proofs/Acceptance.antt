@@ -7,7 +7,7 @@ use lib.ListN.{length}
 use borrow.Author.Tests.{le-leb, lt-ltb}
 use Rattle.sat.specs.Size.{entries}
 use Rattle.norm_csp.specs.Domain.{IntVarRepresentation}
-use Rattle.log_var.specs.EncodeVarLog.{encode-var-log}
+use Rattle.log_encoding.specs.EncodeVarLog.{encode-var-log}
 use Rattle.encoder_env.specs.declared.EncoderEnv.{EncoderEnv}
 use Rattle.encoder_env.specs.WellFormed.{well-formed}
 use Rattle.encoder_var.specs.Settings.{setting-outcome, var-checks}

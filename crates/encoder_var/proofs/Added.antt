@@ -11,12 +11,12 @@ use lib.Seq.{getD-set-other, getD-set-same}
 use borrow.Author.Tests.{eqb-false, eqb-true, le-ltb, lt-ltb, ltb-false, ltb-true}
 use Rattle.clause_set.specs.Stores.{add-clauses, stores}
 use Rattle.norm_csp.specs.Domain.{IntVarRepresentation}
-use Rattle.log_var.specs.EncodeVarLog.{EncodedVar, encode-var-log}
-use Rattle.log_var.specs.EncodesVar.{EncodesVar}
+use Rattle.log_encoding.specs.EncodeVarLog.{EncodedVar, encode-var-log}
+use Rattle.log_encoding.specs.EncodesVar.{EncodesVar}
 use Rattle.log_var.specs.Record.{encoding-of, record-of}
 use Rattle.log_var.specs.declared.LogEncoding.{LogEncoding as Encoding}
 use Rattle.log_var.proofs.Bounds.{recorded}
-use Rattle.log_var.proofs.EncodeVarLog.{encode-var-log-encodes}
+use Rattle.log_encoding.proofs.EncodeVarLog.{encode-var-log-encodes}
 use Rattle.log_var.proofs.Reading.{encoding-back}
 use Rattle.encoder_env.specs.declared.EncoderEnv.{EncoderEnv}
 use Rattle.encoder_env.specs.WellFormed.{encoding-at, encoding-holds, is-spare, record-holds, well-formed}

@@ -16,7 +16,7 @@ use Rattle.clause_set.specs.Stores.{after}
 use Rattle.norm_csp.proofs.NormCsp.{KnownVar}
 use Rattle.norm_csp.specs.Domain.{IntVarRepresentation, RisingFrom, binary, last-from, list, range}
 use Rattle.log_var.specs.Calls.{Ready, VarAdded, lowest}
-use Rattle.log_var.specs.EncodeVarLog.{Encodable, encode-var-log}
+use Rattle.log_encoding.specs.EncodeVarLog.{Encodable, encode-var-log}
 use Rattle.log_var.proofs.Bounds.{rising-last}
 use Rattle.log_var.proofs.Calls.{last-at}
 use Rattle.log_var.specs.declared.EncodedVar.{EncodedVar}

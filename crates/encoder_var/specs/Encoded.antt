@@ -4,8 +4,8 @@ use lib.ListN.{length}
 use mathlib.Core.List.{List}
 use mathlib.Core.Path.{_≡_}
 use Rattle.norm_csp.specs.Domain.{IntVarRepresentation}
-use Rattle.log_var.specs.EncodeVarLog.{EncodedVar}
-use Rattle.log_var.specs.EncodesVar.{EncodesVar}
+use Rattle.log_encoding.specs.EncodeVarLog.{EncodedVar}
+use Rattle.log_encoding.specs.EncodesVar.{EncodesVar}
 use Rattle.encoder_env.specs.declared.EncoderEnv.{EncoderEnv}
 use Rattle.encoder_env.specs.WellFormed.{int-map}
 use Rattle.encoder_var.specs.Settings.{setting-outcome}

@@ -7,7 +7,7 @@ use lib.Signed.{ltZ}
 use mathlib.Core.Bool.{Bool, _&&_}
 use mathlib.Core.List.{List, [], _++_, _∷_}
 use Rattle.norm_csp.specs.Domain.{IntVarRepresentation, binary, list, range}
-use Rattle.log_var.specs.EncodeVarLog.{EncodedVar, encode-var-log}
+use Rattle.log_encoding.specs.EncodeVarLog.{EncodedVar, encode-var-log}
 use Rattle.log_var.specs.Record.{record-of}
 use Rattle.encoder_env.specs.declared.EncoderEnv.{EncoderEnv}
 use Rattle.encoder_env.specs.WellFormed.{all-below, bounds-hold, code-fits, in-range, well-formed}

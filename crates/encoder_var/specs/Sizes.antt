@@ -2,7 +2,7 @@
 use Prim.Native.Nat.{ℕ}
 use Rattle.clause_set.specs.declared.Counts.{Counts}
 use Rattle.norm_csp.specs.Domain.{IntVarRepresentation}
-use Rattle.log_var.specs.EncodeVarLog.{encode-var-log}
+use Rattle.log_encoding.specs.EncodeVarLog.{encode-var-log}
 use Rattle.log_var.specs.declared.EncodedVar.{EncodedVar}
 use Rattle.encoder_env.specs.declared.EncoderEnv.{EncoderEnv}
 use Rattle.encoder_answer.specs.Adding.{job-with, with-record}

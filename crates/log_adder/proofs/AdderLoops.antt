@@ -12,12 +12,12 @@ use Rattle.log_adder.specs.declared.ColumnInput.{ColumnInput}
 use Rattle.log_adder.specs.declared.AdderState.{AdderState}
 use Rattle.clause_set.specs.Stores.{after}
 use Rattle.sat.specs.Encoded.{EncodedBits}
-use Rattle.log_adder.specs.Adder.{adder, extend, tail}
+use Rattle.log_encoding.specs.Adder.{adder, extend, tail}
 use Rattle.log_adder.specs.ColumnInfo.{range-lits}
 use Rattle.sat.specs.LitArray.{lit, num}
 use Rattle.log_adder.specs.AdderState.{ColumnAdded, InBounds, carry-count, input-columns, outcome, state-bits, then}
 use Rattle.log_adder.proofs.ColumnsLeft.{add-column-then, adder-end, adder-step, extend-end, extend-step, given-result, given-tail, given-vars, then-no-more}
-use Rattle.log_adder.proofs.Heights.{column-fits, fits-step, tall-from}
+use Rattle.log_encoding.proofs.Heights.{column-fits, fits-step, tall-from}
 
 -- The columns --------------------------------------------------------------------------------------------------
 

@@ -11,7 +11,7 @@ use Rattle.clause_set.specs.Stores.{Fits, Stores, add-clauses, after, stores}
 use Rattle.clause_set.proofs.Adding.{count-after, used-after}
 use Rattle.mixed.specs.declared.LinearInfo.{LinearInfo}
 use Rattle.mixed.specs.Infos.{equated}
-use Rattle.log_adder.proofs.ColumnMost.{Most}
+use Rattle.log_encoding.proofs.ColumnMost.{Most}
 
 module _ (cs : Clauses) (m : Most cs) (base : ℕ) where
   pub column-fits : base < 2 ^ 31 → Fits base (record { clauses = 0; lits = 0 }) cs

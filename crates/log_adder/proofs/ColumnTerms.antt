@@ -15,17 +15,17 @@ use Rattle.mixed.specs.declared.LinearInfo.{LinearInfo}
 use Rattle.log_adder.specs.declared.VarRange.{VarRange}
 use Rattle.log_adder.specs.declared.ColumnInfo.{ColumnInfo}
 use Rattle.sat.specs.Lit.{neg}
-use Rattle.mixed.specs.Terms.{Term, flip, singles, term}
-use Rattle.mixed.specs.Enumerate.{bounded, enumerate}
+use Rattle.log_encoding.specs.Terms.{Term, flip, singles, term}
+use Rattle.log_encoding.specs.Enumerate.{bounded, enumerate}
 use Rattle.mixed.specs.Infos.{equated, info-lit, info-term, negated-info, thresholds}
 use Rattle.sat.proofs.Fresh.{length-fresh}
-use Rattle.mixed.proofs.Flip.{flip-snoc}
-use Rattle.log_adder.specs.Adder2.{eq-column, eq-ge-terms, eq-le-terms}
-use Rattle.log_adder.specs.Column.{column, ge-terms, le-terms}
+use Rattle.log_encoding.proofs.Flip.{flip-snoc}
+use Rattle.log_encoding.specs.Adder2.{eq-column, eq-ge-terms, eq-le-terms}
+use Rattle.log_encoding.specs.Column.{column, ge-terms, le-terms}
 use Rattle.sat.specs.Fresh.{fresh}
 use Rattle.log_adder.specs.ColumnInfo.{ColumnSized, column-clauses, column-infos, eq-infos, lit-info, own-lits, range-info, range-lits}
 use Rattle.sat.specs.LitArray.{lit, num}
-use Rattle.log_adder.proofs.ColumnMost.{Most, column-most, eq-column-most}
+use Rattle.log_encoding.proofs.ColumnMost.{Most, column-most, eq-column-most}
 
 fresh-last : (k v : ℕ) → fresh (suc k) v ≡ fresh k v ++ (2 * (v + k) ∷ [])
 fresh-last zero v = ap (λ (x : ℕ). x ∷ []) (omega arith)

@@ -16,8 +16,8 @@ use Rattle.log_adder.specs.declared.ColumnInput.{ColumnInput}
 use Rattle.log_adder.specs.declared.AdderState.{AdderState}
 use Rattle.clause_set.specs.Stores.{Stores, add-clauses, after}
 use Rattle.clause_set.proofs.Adding.{add-append}
-use Rattle.log_adder.specs.Column.{column}
-use Rattle.log_adder.specs.Adder.{AdderColumn, add-column, adder, carry-size, empty-column, extend, joined, no-more-columns, result, result-vars, tail}
+use Rattle.log_encoding.specs.Column.{column}
+use Rattle.log_encoding.specs.Adder.{AdderColumn, add-column, adder, carry-size, empty-column, extend, joined, no-more-columns, result, result-vars, tail}
 use Rattle.sat.specs.Encoded.{EncodedBits}
 use Rattle.sat.specs.Fresh.{fresh}
 use Rattle.log_adder.specs.ColumnInfo.{column-clauses, range-lits}

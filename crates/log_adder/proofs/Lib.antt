@@ -1,13 +1,3 @@
-pub mod Column
-pub mod Adder
-pub mod Gather
-pub mod EqColumn
-pub mod Adder2
-pub mod MinusTwice
-pub mod Plain
-pub mod Size
-pub mod Heights
-pub mod ColumnMost
 pub mod ColumnStored
 pub mod ColumnTerms
 pub mod OneColumn

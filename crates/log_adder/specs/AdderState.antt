@@ -12,7 +12,7 @@ use Rattle.log_adder.specs.declared.ColumnInput.{ColumnInput}
 use Rattle.log_adder.specs.declared.AdderInput.{AdderInput}
 use Rattle.log_adder.specs.declared.AdderState.{AdderState}
 use Rattle.clause_set.specs.Stores.{Stores, add-clauses, after}
-use Rattle.log_adder.specs.Adder.{AdderColumn, adder, extend}
+use Rattle.log_encoding.specs.Adder.{AdderColumn, adder, extend}
 use Rattle.sat.specs.Encoded.{EncodedBits}
 use Rattle.log_adder.specs.ColumnInfo.{AllLow, column-clauses, range-lits}
 use Rattle.sat.specs.LitArray.{first-lits, lit}

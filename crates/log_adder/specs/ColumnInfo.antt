@@ -9,7 +9,7 @@ use Rattle.mixed.specs.declared.LinearInfo.{LinearInfo}
 use Rattle.log_adder.specs.declared.VarRange.{VarRange}
 use Rattle.log_adder.specs.declared.ColumnInfo.{ColumnInfo}
 use Rattle.sat.specs.Clause.{Clauses}
-use Rattle.log_adder.specs.Column.{column}
+use Rattle.log_encoding.specs.Column.{column}
 use Rattle.sat.specs.Fresh.{fresh}
 
 -- every literal of the array is a number below 2 ^ 31

@@ -7,7 +7,7 @@ ghost use Rattle.clause_set.specs.Stores.{add-clauses, after, stores};
 ghost use Rattle.mixed.specs.Infos.{AllSmall};
 ghost use Rattle.log_adder.specs.AdderState.{AdderAdded, AdderFits, ColumnAdded, ColumnReady, ColumnsAdded, CountsLow, Extended, InBounds, result-count, result-lit};
 ghost use Rattle.log_adder.specs.ColumnInfo.{ColumnSized, column-clauses, column-infos, lit-info, range-info};
-ghost use Rattle.log_adder.specs.Size.{greatest-height, input-shapes, reached, too-tall};
+ghost use Rattle.log_encoding.specs.AdderSize.{greatest-height, input-shapes, reached, too-tall};
 use clause_set::Counts;
 use mixed::LinearInfo;
 use sat::Lit;

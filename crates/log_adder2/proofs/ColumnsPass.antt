@@ -23,7 +23,7 @@ use Rattle.clause_set.specs.Stores.{add-clauses, after}
 use Rattle.clause_set.proofs.Adding.{add-append}
 use Rattle.sat.specs.Fresh.{fresh}
 use Rattle.log_adder.specs.ColumnInfo.{range-lits}
-use Rattle.log_adder.specs.Adder2.{Adder2Output, NewCarry, eq-column, ordering, returned-set}
+use Rattle.log_encoding.specs.Adder2.{Adder2Output, NewCarry, eq-column, ordering, returned-set}
 use Rattle.log_adder.specs.AdderState.{own-at}
 use Rattle.log_adder2.specs.EqState.{Carries, EqFits, EqInBounds, Wrote, carries, carries-from, carries-then, carry-of, columns-clauses, eq-carry-count, eq-output, is-dead, next-state, no-vars, target-bit}
 use Rattle.log_adder2.proofs.EqHeights.{column-fits, fits-step, tall-from}

@@ -9,8 +9,8 @@ use mathlib.Core.Path.{_∙_, _≡_, ap, refl, sym}
 use native.Mathlib.Nat.{not-suc-le-zero, sub-zero}
 use native.Mathlib.Numerals.{add-one, sub-one}
 use native.Mathlib.Omega.{arith}
-use Rattle.log_adder.specs.Size.{Reached, eq-column-reached, eq-reached, greatest-height, has-carry, too-tall}
-use Rattle.log_adder.proofs.Heights.{reached-fits}
+use Rattle.log_encoding.specs.AdderSize.{Reached, eq-column-reached, eq-reached, greatest-height, has-carry, too-tall}
+use Rattle.log_encoding.proofs.Heights.{reached-fits}
 
 module _ (counts : List ℕ) where
   -- the counts of w columns from the i-th on

@@ -9,7 +9,7 @@ use lib.ListN.{length}
 use Rattle.sat.specs.Size.{entries}
 use Rattle.sat.specs.Lit.{neg}
 use Rattle.sat.specs.Fresh.{fresh}
-use Rattle.log_adder.specs.Adder2.{ordering}
+use Rattle.log_encoding.specs.Adder2.{ordering}
 
 pub ordering-step : (n v : ℕ) → 1 < n → ordering (fresh n v) ≡ (2 * v ∷ neg (2 * (v + 1)) ∷ []) ∷ ordering (fresh (n - 1) (v + 1))
 ordering-step zero v h = absurd (not-suc-le-zero h)

@@ -21,7 +21,7 @@ use Rattle.clause_set.specs.Stores.{Stores, add-clauses, after}
 use Rattle.clause_set.proofs.Adding.{add-append, count-after, used-after}
 use Rattle.sat.specs.Fresh.{fresh}
 use Rattle.sat.proofs.Fresh.{length-fresh}
-use Rattle.log_adder.specs.Adder2.{Adder2Output, NewCarry, column-answer, ordering}
+use Rattle.log_encoding.specs.Adder2.{Adder2Output, NewCarry, column-answer, ordering}
 use Rattle.log_adder.specs.ColumnInfo.{range-lits}
 use Rattle.log_adder2.specs.EqState.{Carries, CarriesOrdered, EqInBounds, carries-from, carries-then, carry-of}
 use Rattle.log_adder2.proofs.EqHeights.{column-fits, fits-step, tall-from}

@@ -17,7 +17,7 @@ use Rattle.sat.specs.Clause.{Clauses}
 use Rattle.sat.specs.Fresh.{fresh}
 use Rattle.sat.proofs.Fresh.{length-fresh}
 use Rattle.log_adder.specs.ColumnInfo.{range-lits}
-use Rattle.log_adder.specs.Adder2.{Adder2Output, NewCarry, ordering, prepend}
+use Rattle.log_encoding.specs.Adder2.{Adder2Output, NewCarry, ordering, prepend}
 use Rattle.log_adder.specs.AdderState.{own-at}
 use Rattle.log_adder2.specs.EqState.{Carries, Wide, carries, carries-from, carries-then, columns-clauses, eq-output, is-dead, no-vars, output-at}
 use Rattle.log_adder2.proofs.EqHeights.{column-fits, fits-step, tall-from}

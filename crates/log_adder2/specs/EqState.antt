@@ -20,7 +20,7 @@ use Rattle.clause_set.specs.Stores.{add-clauses, after}
 use Rattle.log_adder.specs.AdderState.{own-at}
 use Rattle.log_adder.specs.ColumnInfo.{AllLow, own-lits, range-lits}
 use Rattle.sat.specs.Fresh.{fresh}
-use Rattle.log_adder.specs.Adder2.{Adder2Output, EqColumn, LastColumn, NewCarry, adder2, adder2-clauses, column-answer, eq-column, ordering}
+use Rattle.log_encoding.specs.Adder2.{Adder2Output, EqColumn, LastColumn, NewCarry, adder2, adder2-clauses, column-answer, eq-column, ordering}
 
 -- a column's clauses: x + own + carry = 2 next + y
 abbrev pub eq-column-clauses : ColumnInfo → ℕ → ℕ → Clauses

@@ -12,9 +12,9 @@ use lib.Seq.{take-suc, take-suc-set}
 use Rattle.arithmetic.specs.Bits.{bit-length-within}
 use Rattle.sat.specs.declared.Lit.{Lit}
 use Rattle.sat.specs.Lit.{neg}
-use Rattle.log_adder.specs.Adder.{AdderColumn}
+use Rattle.log_encoding.specs.Adder.{AdderColumn}
 use Rattle.sat.specs.LitArray.{first-lits, lit, num}
-use Rattle.log_adder.specs.Gather.{Grid, with-constant}
+use Rattle.log_encoding.specs.Gather.{Grid, with-constant}
 use Rattle.log_gather.specs.Arrays.{grid-columns}
 
 grid-shift : (w i : ℕ) (c : List ℕ) (g : Grid) (k : ℕ) → grid-columns w (suc i) (c ∷ g) k ≡ grid-columns w i g k

@@ -12,11 +12,11 @@ use Rattle.sat.specs.declared.Lit.{Lit}
 use Rattle.log_adder.specs.declared.VarRange.{VarRange}
 use Rattle.log_adder.specs.ColumnInfo.{range-lits}
 use Rattle.sat.proofs.Fresh.{length-fresh}
-use Rattle.log_adder.specs.Adder2.{EqColumn, LastColumn, adder2, eq-columns, last-column}
+use Rattle.log_encoding.specs.Adder2.{EqColumn, LastColumn, adder2, eq-columns, last-column}
 use Rattle.log_adder2.specs.EqState.{output-at}
 use Rattle.log_adder.specs.AdderState.{own-at}
 use Rattle.log_adder2.proofs.EqHeights.{column-fits, fits-step, tall-from}
-use Rattle.log_adder.specs.Gather.{Grid}
+use Rattle.log_encoding.specs.Gather.{Grid}
 use Rattle.log_gather.specs.Arrays.{Holds}
 
 -- the same eq-columns, by their places

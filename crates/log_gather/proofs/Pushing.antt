@@ -15,7 +15,7 @@ use Rattle.sat.specs.declared.Lit.{Lit}
 use Rattle.log_adder.specs.ColumnInfo.{AllLow}
 use Rattle.sat.specs.LitArray.{first-lits, lit, num}
 use Rattle.log_adder.proofs.ColumnTerms.{every-set}
-use Rattle.log_adder.specs.Gather.{Grid, push-scaled, push-value}
+use Rattle.log_encoding.specs.Gather.{Grid, push-scaled, push-value}
 use Rattle.log_gather.specs.Arrays.{Arrays, Few, Holds, Pushed}
 
 -- One literal --------------------------------------------------------------------------------------------------------

@@ -9,7 +9,7 @@ use native.Mathlib.Omega.{arith}
 use lib.Dec.{eqb}
 use Rattle.arithmetic.specs.Bits.{shl}
 use Rattle.arithmetic.proofs.Bits.{shl-add, shl-twice}
-use Rattle.log_adder.specs.Gather.{Grid, push-scaled, push-value}
+use Rattle.log_encoding.specs.Gather.{Grid, push-scaled, push-value}
 use Rattle.log_gather.specs.Arrays.{widths}
 
 -- half of a number, shifted once more, is no more

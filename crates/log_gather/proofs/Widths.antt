@@ -11,9 +11,9 @@ use lib.ListN.{length, getD, take}
 use Rattle.sat.specs.declared.Lit.{Lit}
 use Rattle.sat.specs.LitArray.{num}
 use Rattle.log_adder.specs.AdderState.{input-columns}
-use Rattle.log_adder.specs.Gather.{Grid, push-scaled, push-value}
-use Rattle.log_adder.specs.Size.{input-shapes, reached, too-tall}
-use Rattle.log_adder.proofs.Heights.{column-fits, fits-step}
+use Rattle.log_encoding.specs.Gather.{Grid, push-scaled, push-value}
+use Rattle.log_encoding.specs.AdderSize.{input-shapes, reached, too-tall}
+use Rattle.log_encoding.proofs.Heights.{column-fits, fits-step}
 use Rattle.log_gather.specs.Arrays.{Holds, grid-columns, widths}
 
 lay-length : (o : ℕ) (ls : List ℕ) (g : Grid) → length (push-value o ls g) ≡ max (length g) (o + length ls)

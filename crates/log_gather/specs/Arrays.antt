@@ -7,8 +7,8 @@ use mathlib.Core.List.{List, [], _∷_}
 use lib.Dec.{eqb}
 use lib.ListN.{length, getD}
 use Rattle.sat.specs.declared.Lit.{Lit}
-use Rattle.log_adder.specs.Adder.{AdderColumn}
-use Rattle.log_adder.specs.Gather.{Grid}
+use Rattle.log_encoding.specs.Adder.{AdderColumn}
+use Rattle.log_encoding.specs.Gather.{Grid}
 use Rattle.log_adder.specs.AdderState.{own-at}
 use Rattle.log_adder.specs.ColumnInfo.{AllLow}
 use Rattle.sat.specs.LitArray.{lit}

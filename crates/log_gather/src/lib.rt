@@ -8,7 +8,7 @@ ghost use Prim.Native.Nat.{max, _+_, _%_, _^_, _≤_, _<_};
 ghost use Rattle.arithmetic.specs.Bits.{shl};
 ghost use Rattle.sat.specs.Lit.{neg};
 ghost use Rattle.log_adder.specs.ColumnInfo.{AllLow};
-ghost use Rattle.log_adder.specs.Gather.{push-scaled, push-value};
+ghost use Rattle.log_encoding.specs.Gather.{push-scaled, push-value};
 ghost use Rattle.log_gather.specs.Arrays.{AllSmall, Arrays, Few, Holds, Pushed, widths};
 ghost use Rattle.sat.specs.LitArray.{first-lits};
 use sat::Lit;

@@ -13,7 +13,7 @@ use Rattle.clause_set.specs.declared.Counts.{Counts}
 use Rattle.clause_set.specs.Stores.{Stores, add-clauses, after}
 use Rattle.clause_set.proofs.Adding.{add-append}
 use Rattle.log_linear.specs.Added.{Added, add-rule, rule-outcome}
-use Rattle.log_linear.specs.Compare.{ne-bits, none-of, xor-gate}
+use Rattle.log_encoding.specs.Compare.{ne-bits, none-of, xor-gate}
 use Rattle.log_linear.specs.SubLit.{ge-end, ge-gate, ge-left, sub-clauses, sub-lits}
 use Rattle.log_linear.specs.declared.RuleCounts.{RuleCounts}
 

@@ -5,8 +5,8 @@ use mathlib.Core.List.{List, [], _++_, _∷_}
 use mathlib.Core.Option.{Option, none, some}
 use Rattle.sat.specs.Clause.{Clauses}
 use Rattle.sat.specs.Encoded.{EncodedRule}
-use Rattle.log_linear.specs.Compare.{first-gate, ge-from, none-of, sub-gate}
-use Rattle.log_linear.specs.Linear.{ge-bits}
+use Rattle.log_encoding.specs.Compare.{first-gate, ge-from, none-of, sub-gate}
+use Rattle.log_encoding.specs.Linear.{ge-bits}
 use Rattle.log_linear.specs.declared.SubLit.{SubLit}
 use Rattle.log_linear.specs.declared.SubLit.the-variants.{None, Some}
 

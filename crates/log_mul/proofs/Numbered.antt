@@ -12,21 +12,21 @@ use Rattle.arithmetic.specs.Bits.{shl}
 use Rattle.sat.specs.Encoded.{EncodedBits}
 use Rattle.sat.specs.Fresh.{fresh}
 use Rattle.sat.proofs.Fresh.{length-fresh}
-use Rattle.log_adder.specs.Adder.{AdderColumn, adder, carry-size, empty-column, extend}
-use Rattle.log_adder.specs.Gather.{pad-columns}
-use Rattle.log_adder.specs.Size.{ColumnShape, Reached, column-shape, input-shapes, pad-shapes, push-counts, reached, reached-column, reached-past}
+use Rattle.log_encoding.specs.Adder.{AdderColumn, adder, carry-size, empty-column, extend}
+use Rattle.log_encoding.specs.Gather.{pad-columns}
+use Rattle.log_encoding.specs.AdderSize.{ColumnShape, Reached, column-shape, input-shapes, pad-shapes, push-counts, reached, reached-column, reached-past}
 use Rattle.log_adder.proofs.ColumnTerms.{every-set}
-use Rattle.log_adder.proofs.Size.{pad-columns-shapes}
+use Rattle.log_encoding.proofs.AdderSize.{pad-columns-shapes}
 use Rattle.log_gather.specs.Arrays.{AllSmall}
 use Rattle.sat.specs.declared.Lit.{Lit}
 use Rattle.log_gather.proofs.Steps.{shl-more}
 use Rattle.log_mul.specs.Bits.{BitAdded, BitsLeft, ProductNumbered, numbered, numbered-vars}
-use Rattle.log_mul.specs.Multiply.{multiplier, rows-grid, rows-vars}
-use Rattle.log_mul.specs.Size.{multiplier-reached, rows-counts}
+use Rattle.log_encoding.specs.Multiply.{multiplier, rows-grid, rows-vars}
+use Rattle.log_encoding.specs.MulSize.{multiplier-reached, rows-counts}
 use Rattle.log_mul.specs.declared.BitsState.{BitsState}
 use Rattle.log_mul.proofs.RowColumns.{pad-length, rows-most}
 use Rattle.log_mul.proofs.Rows.{gates-most}
-use Rattle.log_mul.proofs.Size.{rows-grid-counts, rows-vars-are}
+use Rattle.log_encoding.proofs.MulSize.{rows-grid-counts, rows-vars-are}
 
 -- How many columns are reached ----------------------------------------------------------------------------------------
 

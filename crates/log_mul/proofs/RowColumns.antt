@@ -17,22 +17,22 @@ use Rattle.sat.proofs.Fresh.{length-fresh}
 use Rattle.clause_set.specs.Stores.{add-clauses, after}
 use Rattle.clause_set.specs.declared.Counts.{Counts}
 use Rattle.clause_set.proofs.Adding.{add-append}
-use Rattle.log_adder.specs.Adder.{AdderColumn, adder}
+use Rattle.log_encoding.specs.Adder.{AdderColumn, adder}
 use Rattle.log_adder.specs.AdderState.{AdderAdded, Outcome, input-columns, then}
-use Rattle.log_adder.specs.Gather.{Grid, pad-columns, push-value}
-use Rattle.log_adder.specs.Size.{ColumnShape, column-shape, input-shapes, own-counts, pad-shapes, push-counts, reached, too-tall}
+use Rattle.log_encoding.specs.Gather.{Grid, pad-columns, push-value}
+use Rattle.log_encoding.specs.AdderSize.{ColumnShape, column-shape, input-shapes, own-counts, pad-shapes, push-counts, reached, too-tall}
 use Rattle.log_adder.specs.declared.AdderState.{AdderState}
-use Rattle.log_adder.proofs.Size.{pad-columns-shapes, push-value-counts}
+use Rattle.log_encoding.proofs.AdderSize.{pad-columns-shapes, push-value-counts}
 use Rattle.log_gather.specs.Arrays.{Arrays, Few, Holds, Pushed, grid-columns}
 use Rattle.log_gather.proofs.Widths.{columns-grid}
 use Rattle.log_linear.specs.Added.{Added, add-rule, bits-of, rule-outcome}
-use Rattle.log_linear.specs.Compare.{none-of}
+use Rattle.log_encoding.specs.Compare.{none-of}
 use Rattle.log_linear.specs.declared.Bits.{Bits}
 use Rattle.log_linear.specs.declared.RuleCounts.{RuleCounts}
 use Rattle.log_linear.proofs.Literals.{lits-long}
 use Rattle.log_mul.specs.Added.{MultiplierAdded, RowsAdded, RowsGathered, rows-of}
-use Rattle.log_mul.specs.Multiply.{multiplier, product, rows, rows-grid, rows-vars}
-use Rattle.log_mul.specs.Size.{multiplier-reached, rows-counts}
+use Rattle.log_encoding.specs.Multiply.{multiplier, product, rows, rows-grid, rows-vars}
+use Rattle.log_encoding.specs.MulSize.{multiplier-reached, rows-counts}
 use Rattle.log_mul.specs.declared.Multiplied.{Multiplied}
 use Rattle.log_mul.proofs.Rows.{gates-most}
 

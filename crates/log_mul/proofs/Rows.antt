@@ -17,7 +17,7 @@ use Rattle.log_linear.specs.Added.{Added}
 use Rattle.log_linear.proofs.Adding.{added}
 use Rattle.log_linear.proofs.Literals.{lits-long, lits-next, lits-none}
 use Rattle.log_mul.specs.Added.{RowsAdded}
-use Rattle.log_mul.specs.Multiply.{and-gate, row, rows, rows-vars}
+use Rattle.log_encoding.specs.Multiply.{and-gate, row, rows, rows-vars}
 
 -- One row ------------------------------------------------------------------------------------------------------------
 

@@ -9,14 +9,14 @@ use Rattle.sat.specs.declared.Lit.{Lit}
 use Rattle.clause_set.specs.Stores.{add-clauses, after}
 use Rattle.clause_set.specs.declared.Counts.{Counts}
 use Rattle.log_adder.specs.ColumnInfo.{AllLow}
-use Rattle.log_adder.specs.Gather.{Grid, push-value}
-use Rattle.log_adder.specs.Size.{too-tall}
+use Rattle.log_encoding.specs.Gather.{Grid, push-value}
+use Rattle.log_encoding.specs.AdderSize.{too-tall}
 use Rattle.log_gather.specs.Arrays.{Arrays, Few, Holds}
 use Rattle.log_linear.specs.Added.{bits-of}
 use Rattle.log_linear.specs.declared.Bits.{Bits}
 use Rattle.log_linear.specs.declared.RuleCounts.{RuleCounts}
-use Rattle.log_mul.specs.Multiply.{rows, rows-vars}
-use Rattle.log_mul.specs.Size.{multiplier-reached}
+use Rattle.log_encoding.specs.Multiply.{rows, rows-vars}
+use Rattle.log_encoding.specs.MulSize.{multiplier-reached}
 use Rattle.log_mul.specs.declared.Multiplied.{Multiplied}
 
 -- The rows -----------------------------------------------------------------------------------------------------------

@@ -4,11 +4,11 @@ use mathlib.Core.List.{List, [], _++_, _∷_}
 use mathlib.Core.Path.{_≡_}
 use lib.ListN.{length}
 use Rattle.sat.specs.LitArray.{first-lits}
-use Rattle.log_adder.specs.Size.{Reached}
+use Rattle.log_encoding.specs.AdderSize.{Reached}
 use Rattle.log_gather.specs.Arrays.{AllSmall}
 use Rattle.log_linear.specs.Added.{bits-of}
-use Rattle.log_mul.specs.Multiply.{multiplier}
-use Rattle.log_mul.specs.Size.{multiplier-reached}
+use Rattle.log_encoding.specs.Multiply.{multiplier}
+use Rattle.log_encoding.specs.MulSize.{multiplier-reached}
 use Rattle.log_mul.specs.declared.BitsState.{BitsState}
 use Rattle.log_mul.specs.declared.ProductBits.{ProductBits}
 

@@ -11,18 +11,18 @@ use Rattle.clause_set.specs.Stores.{Stores, after}
 use Rattle.clause_set.specs.declared.Counts.{Counts}
 use Rattle.sat.proofs.Size.{entries-append}
 use Rattle.clause_set.proofs.Adding.{count-after, used-after}
-use Rattle.log_adder.specs.Adder.{adder}
-use Rattle.log_adder.specs.Gather.{Grid, pad-columns}
-use Rattle.log_adder.specs.Size.{ColumnShape, column-shape, pad-shapes, reached, too-tall}
-use Rattle.log_adder.proofs.Size.{pad-columns-shapes}
+use Rattle.log_encoding.specs.Adder.{adder}
+use Rattle.log_encoding.specs.Gather.{Grid, pad-columns}
+use Rattle.log_encoding.specs.AdderSize.{ColumnShape, column-shape, pad-shapes, reached, too-tall}
+use Rattle.log_encoding.proofs.AdderSize.{pad-columns-shapes}
 use Rattle.log_mul.specs.Added.{MultiplierAdded}
-use Rattle.log_mul.specs.Multiply.{multiplier, row, rows, rows-grid, rows-vars}
-use Rattle.log_mul.specs.Size.{multiplier-reached, rows-counts}
+use Rattle.log_encoding.specs.Multiply.{multiplier, row, rows, rows-grid, rows-vars}
+use Rattle.log_encoding.specs.MulSize.{multiplier-reached, rows-counts}
 use Rattle.log_mul.specs.declared.Multiplied.{Multiplied}
 use Rattle.log_mul.proofs.Numbered.{multiplier-few}
 use Rattle.log_mul.proofs.Rows.{gates-most, row-size}
-use Rattle.log_mul.proofs.Size.{multiplier-size, rows-grid-counts}
-use Rattle.log_sum.proofs.AdderMost.{ConstantBits, adder-most}
+use Rattle.log_encoding.proofs.MulSize.{multiplier-size, rows-grid-counts}
+use Rattle.log_encoding.proofs.AdderMost.{ConstantBits, adder-most}
 
 rows-size : (xs ys : List ℕ) (v : ℕ) → (entries (rows xs ys v) ≡ 7 * (length ys * length xs)) × (length (rows xs ys v) ≡ 3 * (length ys * length xs))
 rows-size [] ys v = (omega arith, omega arith)

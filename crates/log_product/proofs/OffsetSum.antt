@@ -14,29 +14,29 @@ use Rattle.clause_set.specs.Stores.{Stores, add-clauses, after}
 use Rattle.clause_set.specs.declared.Counts.{Counts}
 use Rattle.clause_set.proofs.Adding.{add-append}
 use Rattle.norm_csp.specs.Rules.{eq}
-use Rattle.log_var.specs.LogEncoding.{LogEncoding}
-use Rattle.log_var.specs.Size.{setting-shape}
-use Rattle.log_adder.specs.Adder2.{Adder2Output, EncodedEq, adder2, eq-adder, eq-columns, last-column, returned-set}
-use Rattle.log_adder.specs.Gather.{Grid}
-use Rattle.log_adder.specs.Size.{eq-reached, own-counts, too-tall}
+use Rattle.log_encoding.specs.LogEncoding.{LogEncoding}
+use Rattle.log_encoding.specs.VarSize.{setting-shape}
+use Rattle.log_encoding.specs.Adder2.{Adder2Output, EncodedEq, adder2, eq-adder, eq-columns, last-column, returned-set}
+use Rattle.log_encoding.specs.Gather.{Grid}
+use Rattle.log_encoding.specs.AdderSize.{eq-reached, own-counts, too-tall}
 use Rattle.log_adder2.specs.EqState.{CarriesOrdered, EqFits, eq-output}
 use Rattle.log_adder2.specs.declared.EqCarries.{EqCarries}
 use Rattle.log_adder2.specs.declared.EqInput.{EqInput}
 use Rattle.log_linear.specs.Added.{add-rule, rule-outcome}
-use Rattle.log_linear.specs.EncodeLinearLog.{eq-rule}
-use Rattle.log_linear.specs.Linear.{Weighted, gather, negated-constant}
-use Rattle.log_linear.specs.Size.{gather-counts, linear-reached, shape-of}
+use Rattle.log_encoding.specs.EncodeLinearLog.{eq-rule}
+use Rattle.log_encoding.specs.Linear.{Weighted, gather, negated-constant}
+use Rattle.log_encoding.specs.LinearSize.{gather-counts, linear-reached, shape-of}
 use Rattle.log_linear.specs.declared.RuleCounts.{RuleCounts}
-use Rattle.log_linear.proofs.Size.{gather-counts-are, negated-bits-are}
+use Rattle.log_encoding.proofs.LinearSize.{gather-counts-are, negated-bits-are}
 use Rattle.log_terms.specs.Gathered.{Gathered}
 use Rattle.log_sum.proofs.Columns.{counts-are, eq-output-is}
 use Rattle.log_sum.proofs.Compared.{both-fit}
 use Rattle.log_mul.specs.Added.{MultiplierAdded}
-use Rattle.log_mul.specs.EncodeMulLog.{encode-mul, mul-constant, offset-terms, product-with-offsets}
-use Rattle.log_mul.specs.Multiply.{multiplier, product}
-use Rattle.log_mul.specs.Size.{mul-reached, multiplier-reached, no-offsets, offset-shapes, offsets-reached}
+use Rattle.log_encoding.specs.EncodeMulLog.{encode-mul, mul-constant, offset-terms, product-with-offsets}
+use Rattle.log_encoding.specs.Multiply.{multiplier, product}
+use Rattle.log_encoding.specs.MulSize.{mul-reached, multiplier-reached, no-offsets, offset-shapes, offsets-reached}
 use Rattle.log_mul.specs.declared.Multiplied.{Multiplied}
-use Rattle.log_mul.proofs.Size.{multiplier-size, offset-shapes-are}
+use Rattle.log_encoding.proofs.MulSize.{multiplier-size, offset-shapes-are}
 use Rattle.log_product.specs.Ready.{ColumnsReady, EqInputReady, multiply-then}
 
 -- The clauses ---------------------------------------------------------------------------------------------------------

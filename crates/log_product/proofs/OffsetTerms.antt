@@ -20,7 +20,7 @@ use Rattle.log_terms.specs.declared.Weighted.{Weighted as WeightedLits}
 use Rattle.log_var.specs.declared.LogEncoding.{LogEncoding as Encoding}
 use Rattle.log_sum.specs.Settings.{SettingReady}
 use Rattle.log_sum.proofs.Offsets.{added-small, small-fits}
-use Rattle.log_mul.specs.EncodeMulLog.{is-zero}
+use Rattle.log_encoding.specs.EncodeMulLog.{is-zero}
 
 -- an offset as the machine reads it
 pub offset-is : (e : Encoding) → SettingReady e → toZ w32 (ofZ w32 (e .offset)) ≡ e .offset

@@ -7,15 +7,15 @@ use mathlib.Core.Path.{_≡_}
 use Rattle.sat.specs.Encoded.{EncodedBits, EncodedRule}
 use Rattle.clause_set.specs.declared.Counts.{Counts}
 use Rattle.log_var.specs.declared.LogEncoding.{LogEncoding as Encoding}
-use Rattle.log_adder.specs.Adder2.{EncodedEq}
-use Rattle.log_adder.specs.Gather.{Grid}
-use Rattle.log_adder.specs.Size.{eq-reached, own-counts, too-tall}
+use Rattle.log_encoding.specs.Adder2.{EncodedEq}
+use Rattle.log_encoding.specs.Gather.{Grid}
+use Rattle.log_encoding.specs.AdderSize.{eq-reached, own-counts, too-tall}
 use Rattle.log_adder2.specs.declared.EqInput.{EqInput}
 use Rattle.log_gather.specs.Arrays.{AllSmall}
 use Rattle.log_linear.specs.Added.{bits-of}
-use Rattle.log_linear.specs.Linear.{Weighted, gather, negated-constant}
+use Rattle.log_encoding.specs.Linear.{Weighted, gather, negated-constant}
 use Rattle.log_linear.specs.declared.Bits.{Bits}
-use Rattle.log_mul.specs.Size.{multiplier-reached}
+use Rattle.log_encoding.specs.MulSize.{multiplier-reached}
 use Rattle.log_var.specs.Record.{record-at}
 use Rattle.log_sum.specs.Settings.{SettingReady}
 

@@ -8,10 +8,10 @@ use lib.ListN.{length, getD, take}
 use Rattle.arithmetic.specs.Bits.{bit-length}
 use Rattle.arithmetic.proofs.Bits.{bit-length-least}
 use Rattle.sat.specs.declared.Lit.{Lit}
-use Rattle.log_adder.specs.Adder2.{adder2, eq-columns, last-column}
+use Rattle.log_encoding.specs.Adder2.{adder2, eq-columns, last-column}
 use Rattle.log_adder.specs.AdderState.{input-columns}
-use Rattle.log_adder.specs.Gather.{Grid, with-constant}
-use Rattle.log_adder.specs.Size.{column-shape, eq-reached, input-shapes, own-counts, reached, too-tall}
+use Rattle.log_encoding.specs.Gather.{Grid, with-constant}
+use Rattle.log_encoding.specs.AdderSize.{column-shape, eq-reached, input-shapes, own-counts, reached, too-tall}
 use Rattle.log_adder2.specs.declared.EqInput.{EqInput}
 use Rattle.log_adder2.specs.EqState.{eq-output}
 use Rattle.log_adder2.proofs.EqHeights.{all-fit, counts-from, counts-from-take}

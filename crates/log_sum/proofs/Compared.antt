@@ -10,10 +10,10 @@ use Rattle.clause_set.specs.Stores.{Stores, add-clauses, after}
 use Rattle.clause_set.specs.declared.Counts.{Counts}
 use Rattle.clause_set.proofs.Adding.{add-append}
 use Rattle.log_adder.specs.AdderState.{Outcome}
-use Rattle.log_adder.specs.Size.{Reached, greatest-height, too-tall}
+use Rattle.log_encoding.specs.AdderSize.{Reached, greatest-height, too-tall}
 use Rattle.log_adder.specs.declared.AdderState.{AdderState}
 use Rattle.log_linear.specs.Added.{add-rule, bits-of, rule-outcome}
-use Rattle.log_linear.specs.Linear.{compare}
+use Rattle.log_encoding.specs.Linear.{compare}
 use Rattle.log_linear.specs.declared.RuleCounts.{RuleCounts}
 use Rattle.log_sum.specs.Added.{SumAdded, SumsAdded}
 use Rattle.log_sum.specs.declared.Sums.{Sums}

@@ -10,17 +10,17 @@ use Rattle.sat.specs.declared.Lit.{Lit}
 use Rattle.clause_set.specs.Stores.{add-clauses, after}
 use Rattle.clause_set.specs.declared.Counts.{Counts}
 use Rattle.norm_csp.specs.Rules.{eq}
-use Rattle.log_adder.specs.Adder2.{Adder2Output, adder2, adder2-clauses, eq-adder, eq-columns, last-column}
-use Rattle.log_adder.specs.Gather.{Grid}
-use Rattle.log_adder.specs.Size.{eq-reached, too-tall}
+use Rattle.log_encoding.specs.Adder2.{Adder2Output, adder2, adder2-clauses, eq-adder, eq-columns, last-column}
+use Rattle.log_encoding.specs.Gather.{Grid}
+use Rattle.log_encoding.specs.AdderSize.{eq-reached, too-tall}
 use Rattle.log_adder2.specs.EqState.{EqAdded, EqFits}
 use Rattle.log_adder2.specs.declared.EqInput.{EqInput}
 use Rattle.log_adder2.specs.declared.EqCounts.{EqCounts}
 use Rattle.log_linear.specs.Added.{add-rule, rule-outcome}
-use Rattle.log_linear.specs.EncodeLinearLog.{eq-rule}
-use Rattle.log_linear.specs.Linear.{Weighted, gather, linear-eq, negated-constant}
-use Rattle.log_linear.specs.Size.{gather-counts, linear-reached, negated-bits, shape-of}
-use Rattle.log_linear.proofs.Size.{gather-counts-are, negated-bits-are}
+use Rattle.log_encoding.specs.EncodeLinearLog.{eq-rule}
+use Rattle.log_encoding.specs.Linear.{Weighted, gather, linear-eq, negated-constant}
+use Rattle.log_encoding.specs.LinearSize.{gather-counts, linear-reached, negated-bits, shape-of}
+use Rattle.log_encoding.proofs.LinearSize.{gather-counts-are, negated-bits-are}
 use Rattle.log_terms.specs.Gathered.{Gathered}
 use Rattle.log_sum.proofs.Columns.{counts-are, eq-output-is}
 

@@ -1,4 +1,3 @@
-pub mod AdderMost
 pub mod Columns
 pub mod SignSum
 pub mod Compared

@@ -13,10 +13,10 @@ use Rattle.arithmetic.specs.Offset.{code}
 use Rattle.arithmetic.proofs.Integers.{order-read}
 use Rattle.arithmetic.proofs.Offset.{code-read}
 use Rattle.norm_csp.specs.Rules.{op-of}
-use Rattle.log_adder.specs.Size.{greatest-height}
-use Rattle.log_linear.specs.EncodeLinearLog.{encode-weighted, eq-rule}
-use Rattle.log_linear.specs.Linear.{Weighted, linear-compared, linear-eq}
-use Rattle.log_linear.specs.Size.{WeightedShape, linear-reached, sign-reached}
+use Rattle.log_encoding.specs.AdderSize.{greatest-height}
+use Rattle.log_encoding.specs.EncodeLinearLog.{encode-weighted, eq-rule}
+use Rattle.log_encoding.specs.Linear.{Weighted, linear-compared, linear-eq}
+use Rattle.log_encoding.specs.LinearSize.{WeightedShape, linear-reached, sign-reached}
 use Rattle.log_sum.proofs.Compared.{height-append}
 
 pub negative-read : (z : ℤ) → ltZ z (pos 0) ≡ true → (up z ≡ 0) × (z ≤ℤ pos 0)

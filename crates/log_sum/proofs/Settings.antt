@@ -15,13 +15,13 @@ use Rattle.arithmetic.specs.Integers.{down, up}
 use Rattle.sat.specs.declared.Lit.{Lit}
 use Rattle.sat.specs.LitArray.{first-lits, lit, num}
 use Rattle.norm_csp.specs.Rules.{CmpOp, LinearTerm, terms-of}
-use Rattle.log_var.specs.LogEncoding.{LogEncoding}
+use Rattle.log_encoding.specs.LogEncoding.{LogEncoding}
 use Rattle.log_var.specs.declared.LogEncoding.{LogEncoding as Encoding}
 use Rattle.log_gather.proofs.Pushing.{same-or}
-use Rattle.log_linear.specs.EncodeLinearLog.{encode-linear-log, encode-weighted, offset-constant, weighted, weighted-terms}
-use Rattle.log_linear.specs.Linear.{Weighted}
-use Rattle.log_linear.specs.Size.{linear-log-reached, linear-reached, shape-of}
-use Rattle.log_linear.proofs.Size.{term-shapes-are}
+use Rattle.log_encoding.specs.EncodeLinearLog.{encode-linear-log, encode-weighted, offset-constant, weighted, weighted-terms}
+use Rattle.log_encoding.specs.Linear.{Weighted}
+use Rattle.log_encoding.specs.LinearSize.{linear-log-reached, linear-reached, shape-of}
+use Rattle.log_encoding.proofs.LinearSize.{term-shapes-are}
 use Rattle.log_sum.specs.Settings.{shape-map-of}
 use Rattle.log_var.specs.Record.{int-map-of}
 use Rattle.log_terms.specs.Terms.{TermFits, TermsFit, no-term, shapes-all, weighted-all, weighted-of}

@@ -12,19 +12,19 @@ use Rattle.sat.specs.declared.Lit.{Lit}
 use Rattle.clause_set.specs.Stores.{after}
 use Rattle.clause_set.specs.declared.Counts.{Counts}
 use Rattle.clause_set.proofs.Adding.{count-after, used-after}
-use Rattle.log_adder.specs.Adder.{AdderColumn, adder}
+use Rattle.log_encoding.specs.Adder.{AdderColumn, adder}
 use Rattle.log_adder.specs.AdderState.{AdderAdded, AdderFits, Outcome, input-columns, state-bits, then}
 use Rattle.log_adder.specs.ColumnInfo.{AllLow}
 use Rattle.sat.specs.LitArray.{num}
-use Rattle.log_adder.specs.Gather.{Grid, with-constant}
-use Rattle.log_adder.specs.Size.{ColumnShape, column-shape, input-shapes, reached, too-tall}
+use Rattle.log_encoding.specs.Gather.{Grid, with-constant}
+use Rattle.log_encoding.specs.AdderSize.{ColumnShape, column-shape, input-shapes, reached, too-tall}
 use Rattle.log_adder.specs.declared.AdderState.{AdderState}
-use Rattle.log_linear.specs.Linear.{Weighted, gather-sign, sign-adder}
-use Rattle.log_linear.specs.Size.{constant-shapes, shape-of, sign-counts, sign-reached}
-use Rattle.log_linear.proofs.Size.{gather-sign-counts, with-constant-shapes}
+use Rattle.log_encoding.specs.Linear.{Weighted, gather-sign, sign-adder}
+use Rattle.log_encoding.specs.LinearSize.{constant-shapes, shape-of, sign-counts, sign-reached}
+use Rattle.log_encoding.proofs.LinearSize.{gather-sign-counts, with-constant-shapes}
 use Rattle.log_sum.specs.Added.{SumAdded}
 use Rattle.log_terms.specs.Gathered.{Gathered}
-use Rattle.log_sum.proofs.AdderMost.{adder-most, constant-bits}
+use Rattle.log_encoding.proofs.AdderMost.{adder-most, constant-bits}
 use Rattle.log_sum.proofs.Columns.{constant-columns-are, constant-shapes-are}
 
 module _ (s : Bool) (ps : List Weighted) {cols : List (List Lit)} {counts : List ℕ} (g : Gathered (gather-sign s ps ([] ∷ [])) cols counts)

@@ -7,7 +7,7 @@ use mathlib.Core.Path.{_≡_}
 use Rattle.arithmetic.specs.Integers.{down, up}
 use Rattle.log_var.specs.Record.{int-map-of, record-at}
 use Rattle.sat.specs.LitArray.{lit}
-use Rattle.log_var.specs.Size.{SettingShape, setting-shape}
+use Rattle.log_encoding.specs.VarSize.{SettingShape, setting-shape}
 use Rattle.log_var.specs.declared.LogEncoding.{LogEncoding as Encoding}
 use Rattle.sat.specs.declared.Lit.{Lit}
 

@@ -10,7 +10,7 @@ use Rattle.arithmetic.specs.Bits.{shl}
 use Rattle.arithmetic.proofs.Bits.{shl-mul}
 use Rattle.sat.specs.declared.Lit.{Lit}
 use Rattle.log_adder.specs.ColumnInfo.{AllLow}
-use Rattle.log_adder.specs.Gather.{Grid, push-scaled}
+use Rattle.log_encoding.specs.Gather.{Grid, push-scaled}
 use Rattle.log_gather.specs.Arrays.{AllSmall, Arrays, Few, Holds, Pushed, widths}
 use Rattle.sat.specs.LitArray.{first-lits}
 use Rattle.log_gather.proofs.Pushing.{pushed-start}
@@ -18,7 +18,7 @@ use Rattle.log_gather.proofs.Steps.{shl-more, steps-enough, widths-enough, widt
 use Rattle.log_gather.proofs.Widths.{scaled-length}
 use Rattle.log_linear.proofs.Literals.{first-next, first-none, lits-long}
 use Rattle.log_terms.specs.Gathered.{Gathered}
-use Rattle.log_linear.specs.Linear.{Weighted, push-scaled-some}
+use Rattle.log_encoding.specs.Linear.{Weighted, push-scaled-some}
 use Rattle.log_terms.specs.Terms.{TermFits, TermsFit, no-term, some-width, weighted-all, weighted-of}
 use Rattle.log_terms.specs.declared.Weighted.{Weighted as WeightedLits}
 

@@ -2,7 +2,7 @@
 use Prim.Native.Nat.{ℕ}
 use mathlib.Core.List.{List}
 use Rattle.sat.specs.declared.Lit.{Lit}
-use Rattle.log_adder.specs.Gather.{Grid}
+use Rattle.log_encoding.specs.Gather.{Grid}
 use Rattle.log_gather.specs.Arrays.{Arrays, Few, Holds}
 
 -- the arrays hold these columns, and no count is above 10,000

@@ -7,8 +7,8 @@ use mathlib.Core.Path.{_≡_}
 use Rattle.arithmetic.specs.Bits.{shl}
 use Rattle.log_gather.specs.Arrays.{AllSmall, widths}
 use Rattle.sat.specs.LitArray.{first-lits}
-use Rattle.log_linear.specs.Linear.{Weighted}
-use Rattle.log_linear.specs.Size.{WeightedShape, shape-of}
+use Rattle.log_encoding.specs.Linear.{Weighted}
+use Rattle.log_encoding.specs.LinearSize.{WeightedShape, shape-of}
 use Rattle.log_terms.specs.declared.Weighted.{Weighted as WeightedLits}
 
 -- a place that is not in use

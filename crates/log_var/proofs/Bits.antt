@@ -16,9 +16,9 @@ use Rattle.sat.specs.Lit.{neg}
 use Rattle.clause_set.specs.declared.Counts.{Counts}
 use Rattle.clause_set.specs.Stores.{Fits, Stores, add-clauses, after}
 use Rattle.clause_set.proofs.Adding.{Going, going-fits, going-turn}
-use Rattle.log_var.specs.Binary.{binary-bit, binary-bits}
+use Rattle.log_encoding.specs.Binary.{binary-bit, binary-bits}
 use Rattle.log_var.specs.Parts.{BitAdded, BitsAdded}
-use Rattle.log_var.specs.Domain.{against}
+use Rattle.log_encoding.specs.Domain.{against}
 use Rattle.log_var.specs.Record.{pad}
 use Rattle.sat.specs.LitArray.{lit}
 use Rattle.log_var.specs.declared.EncodedBit.{EncodedBit}

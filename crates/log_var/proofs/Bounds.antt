@@ -20,14 +20,14 @@ use Rattle.clause_set.specs.declared.Counts.{Counts}
 use Rattle.clause_set.specs.Stores.{Fits}
 use Rattle.norm_csp.specs.Domain.{IntVarRepresentation, RisingFrom, binary, last-from, list, range}
 use Rattle.log_var.specs.Calls.{Ready, lowest}
-use Rattle.log_var.specs.LogEncoding.{LogEncoding}
+use Rattle.log_encoding.specs.LogEncoding.{LogEncoding}
 use Rattle.log_var.specs.Parts.{CodesFit}
-use Rattle.log_var.specs.EncodeVarLog.{EncodedVar, Encodable, encode-binary, encode-domain, encode-var-log}
-use Rattle.log_var.specs.Size.{at-least-count, at-most-count, binary-vars, domain-count, missing-codes}
+use Rattle.log_encoding.specs.EncodeVarLog.{EncodedVar, Encodable, encode-binary, encode-domain, encode-var-log}
+use Rattle.log_encoding.specs.VarSize.{at-least-count, at-most-count, binary-vars, domain-count, missing-codes}
 use Rattle.log_var.proofs.Bits.{bits-long}
-use Rattle.log_var.proofs.Codes.{codes-rise, codes-top}
-use Rattle.log_var.proofs.Domain.{RisingCodes, last-code}
-use Rattle.log_var.proofs.Size.{encode-binary-size, encode-domain-size}
+use Rattle.log_encoding.proofs.Codes.{codes-rise, codes-top}
+use Rattle.log_encoding.proofs.Domain.{RisingCodes, last-code}
+use Rattle.log_encoding.proofs.VarSize.{encode-binary-size, encode-domain-size}
 
 -- Codes --------------------------------------------------------------------------------------------------------------
 

@@ -21,12 +21,12 @@ use Rattle.clause_set.specs.declared.Counts.{Counts}
 use Rattle.clause_set.specs.Stores.{Fits, Stores, add-clauses, after}
 use Rattle.clause_set.proofs.Adding.{add-append, fits-then}
 use Rattle.norm_csp.specs.Domain.{binary, last-from, list, range}
-use Rattle.log_var.specs.Binary.{binary-bits}
+use Rattle.log_encoding.specs.Binary.{binary-bits}
 use Rattle.log_var.specs.Calls.{Ready, VarAdded}
 use Rattle.log_var.specs.Parts.{BitsAdded, CodesFit, RisingAt, bound, code-range, gaps-from}
-use Rattle.log_var.specs.Domain.{at-least, at-most, gaps}
-use Rattle.log_var.specs.EncodeVarLog.{encode-var-log}
-use Rattle.log_var.specs.LogEncoding.{LogEncoding}
+use Rattle.log_encoding.specs.Domain.{at-least, at-most, gaps}
+use Rattle.log_encoding.specs.EncodeVarLog.{encode-var-log}
+use Rattle.log_encoding.specs.LogEncoding.{LogEncoding}
 use Rattle.log_var.specs.Record.{pad, record-of}
 use Rattle.log_var.specs.declared.CodeRange.{CodeRange}
 use Rattle.log_var.specs.declared.EncodedBits.{EncodedBits}

@@ -1,8 +1,3 @@
-pub mod Domain
-pub mod Codes
-pub mod Binary
-pub mod EncodeVarLog
-pub mod Size
 pub mod Steps
 pub mod Bits
 pub mod Bounds

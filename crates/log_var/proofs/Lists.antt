@@ -14,7 +14,7 @@ use Rattle.arithmetic.proofs.Integers.{<ℤ-le, apart-read, less-read, order-re
 use Rattle.arithmetic.proofs.Offset.{code-read}
 use Rattle.norm_csp.specs.Domain.{RisingFrom, last-from}
 use Rattle.log_var.specs.Parts.{RisingAt, gaps-from}
-use Rattle.log_var.specs.Domain.{gap, gaps}
+use Rattle.log_encoding.specs.Domain.{gap, gaps}
 use Rattle.log_var.proofs.Bounds.{rising-last}
 
 -- two values one after the other

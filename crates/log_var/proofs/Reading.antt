@@ -18,7 +18,7 @@ use Rattle.sat.specs.declared.Lit.{Lit}
 use Rattle.clause_set.specs.Bytes.{Bits, lit-holds}
 use Rattle.sat.specs.LitArray.{lit, num}
 use Rattle.clause_set.proofs.Bytes.{clause-holds-sat, truth}
-use Rattle.log_var.specs.LogEncoding.{LogEncoding, get-int-value}
+use Rattle.log_encoding.specs.LogEncoding.{LogEncoding, get-int-value}
 use Rattle.log_var.specs.Record.{code-of-bytes, encoding-of, lits-of, pad, read-bytes, record-of}
 use Rattle.log_var.specs.declared.LogEncoding.{LogEncoding as Encoding}
 

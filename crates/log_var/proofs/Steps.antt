@@ -16,8 +16,8 @@ use Rattle.clause_set.specs.Stores.{Fits, Stores, add-clauses, after, stores}
 use Rattle.clause_set.specs.declared.Counts.{Counts}
 use Rattle.clause_set.proofs.Adding.{Going, going-start, one-added}
 use Rattle.log_var.specs.Parts.{bound}
-use Rattle.log_var.specs.Domain.{against, at-least, at-most, gap}
-use Rattle.log_var.proofs.Size.{length-against}
+use Rattle.log_encoding.specs.Domain.{against, at-least, at-most, gap}
+use Rattle.log_encoding.proofs.VarSize.{length-against}
 
 -- A loop that adds clauses: what is left at its start, in the loop's terms, and nothing at its end.
 pub going-restart : {b : ℕ} {d e : List ℕ} {a : Counts} {all rest : Clauses} → all ≡ rest → Fits b a all → Going b d e a all d e a rest

@@ -7,7 +7,7 @@ use Rattle.arithmetic.specs.Integers.{down}
 use Rattle.clause_set.specs.Stores.{Stores, add-clauses}
 use Rattle.clause_set.specs.declared.Counts.{Counts}
 use Rattle.norm_csp.specs.Domain.{IntVarRepresentation, binary, list, range}
-use Rattle.log_var.specs.EncodeVarLog.{Encodable, encode-var-log}
+use Rattle.log_encoding.specs.EncodeVarLog.{Encodable, encode-var-log}
 use Rattle.log_var.specs.Record.{record-of}
 use Rattle.log_var.specs.declared.EncodedVar.{EncodedVar}
 

@@ -1,9 +1,3 @@
-pub mod LogEncoding
-pub mod Domain
-pub mod Binary
-pub mod EncodeVarLog
-pub mod EncodesVar
-pub mod Size
 pub mod Record
 pub mod Calls
 pub mod Parts

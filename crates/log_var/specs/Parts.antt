@@ -12,8 +12,8 @@ use Rattle.arithmetic.specs.Offset.{code, offset-of}
 use Rattle.sat.specs.Clause.{Clauses}
 use Rattle.clause_set.specs.Stores.{Stores, add-clauses}
 use Rattle.norm_csp.specs.Domain.{RisingFrom, last-from}
-use Rattle.log_var.specs.Binary.{binary-bits}
-use Rattle.log_var.specs.Domain.{at-least, at-most, gaps}
+use Rattle.log_encoding.specs.Binary.{binary-bits}
+use Rattle.log_encoding.specs.Domain.{at-least, at-most, gaps}
 use Rattle.log_var.specs.Record.{pad}
 use Rattle.log_var.specs.declared.CodeRange.{CodeRange}
 use Rattle.log_var.specs.declared.EncodedBit.{EncodedBit}

@@ -8,7 +8,7 @@ use Rattle.arithmetic.specs.Offset.{value}
 use Rattle.sat.specs.declared.Lit.{Lit}
 use Rattle.clause_set.specs.Bytes.{lit-holds}
 use Rattle.sat.specs.LitArray.{first-lits, lit}
-use Rattle.log_var.specs.LogEncoding.{LogEncoding}
+use Rattle.log_encoding.specs.LogEncoding.{LogEncoding}
 use Rattle.log_var.specs.declared.LogEncoding.{LogEncoding as Encoding}
 
 -- literals in the twelve places of a record; unused places are 0

@@ -7,7 +7,7 @@ use Rattle.clause_set.specs.declared.Counts.{Counts}
 use Rattle.clause_set.specs.Stores.{Fits, add-clauses, after}
 use Rattle.clause_set.proofs.Adding.{add-append, fits-first, fits-then}
 use Rattle.mixed.specs.declared.LinearInfo.{LinearInfo}
-use Rattle.mixed.specs.Enumerate.{bounded}
+use Rattle.log_encoding.specs.Enumerate.{bounded}
 use Rattle.mixed.specs.Infos.{equated, info-term, infos-left, negated-info}
 use Rattle.mixed.proofs.Infos.{negated-left}
 

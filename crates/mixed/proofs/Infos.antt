@@ -10,7 +10,7 @@ use lib.Pow.{pow-pos, pow-add}
 use lib.ListN.{drop, length, getD, set, take}
 use lib.Seq.{slice-cons, slice-empty}
 use Rattle.mixed.specs.declared.LinearInfo.{LinearInfo}
-use Rattle.mixed.specs.Enumerate.{branch, enumerate, bounded}
+use Rattle.log_encoding.specs.Enumerate.{branch, enumerate, bounded}
 use Rattle.mixed.specs.Infos.{AllSmall, info-lit, thresholds, info-term, no-info, infos-left, negated-info}
 
 -- the product of two numbers of k bits has at most k + k

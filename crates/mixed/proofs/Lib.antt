@@ -1,11 +1,5 @@
-pub mod Flip
-pub mod Enumerate
-pub mod Below
-pub mod Order
-pub mod Tally
 pub mod Infos
 pub mod Equated
-pub mod Bound
 pub mod Stored
 pub mod Table
 pub mod TableWalk

@@ -10,7 +10,7 @@ use mathlib.Core.Path.{_∙_, _≡_, refl, sym}
 use native.Mathlib.Nat.{mul-suc, mul-zero, zero-add}
 use native.Mathlib.Omega.{arith}
 use Rattle.mixed.specs.declared.LinearInfo.{LinearInfo}
-use Rattle.mixed.specs.Enumerate.{branch, enumerate}
+use Rattle.log_encoding.specs.Enumerate.{branch, enumerate}
 use Rattle.mixed.specs.Infos.{info-lit, info-term, infos-left, no-info, thresholds}
 use Rattle.mixed.specs.Table.{Filled, SoundTable, put-last, put-rows, walk}
 use Rattle.mixed.proofs.Infos.{last-none, last-one, left-more, length-thresholds}

@@ -6,7 +6,7 @@ use mathlib.Core.Path.{_∙_, _≡_, refl}
 use native.Mathlib.Nat.{not-suc-le-zero}
 use native.Mathlib.Numerals.{sub-one}
 use native.Mathlib.Omega.{arith}
-use Rattle.mixed.specs.Enumerate.{missed}
+use Rattle.log_encoding.specs.Enumerate.{missed}
 use Rattle.mixed.specs.Table.{SoundTable, cost-of, end-of, lit-of, loss-of, next-of, walk, walk-within}
 
 module _ (tab : List ℕ) (z : SoundTable tab) where

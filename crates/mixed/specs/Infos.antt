@@ -5,8 +5,8 @@ use mathlib.Core.Bool.{cond, false, not}
 use mathlib.Core.List.{List, [], _++_, _∷_, map}
 use Rattle.sat.specs.Clause.{Clauses}
 use Rattle.sat.specs.Lit.{neg}
-use Rattle.mixed.specs.Enumerate.{bounded}
-use Rattle.mixed.specs.Terms.{Term}
+use Rattle.log_encoding.specs.Enumerate.{bounded}
+use Rattle.log_encoding.specs.Terms.{Term}
 use Rattle.mixed.specs.declared.LinearInfo.{LinearInfo}
 
 -- the literal of threshold i, from 0: that of variable i, or, falling, the negations from the last variable down

@@ -1,6 +1,2 @@
-pub mod Terms
-pub mod Enumerate
-pub mod Order
-pub mod Tally
 pub mod Infos
 pub mod Table

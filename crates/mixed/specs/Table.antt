@@ -10,7 +10,7 @@ use mathlib.Core.List.{List, [], _++_, _∷_, map}
 use mathlib.Core.Path.{_≡_}
 use Rattle.sat.specs.Clause.{Clauses}
 use Rattle.clause_set.specs.declared.Counts.{Counts}
-use Rattle.mixed.specs.Enumerate.{enumerate, missed}
+use Rattle.log_encoding.specs.Enumerate.{enumerate, missed}
 use Rattle.mixed.specs.Infos.{info-lit, info-term}
 use Rattle.mixed.specs.declared.LinearInfo.{LinearInfo}
 

@@ -9,7 +9,7 @@ ghost use lib.Seq.{sets};
 ghost use mathlib.Core.Bool.{_&&_};
 ghost use Rattle.clause_set.specs.Clause.{clause-lits};
 ghost use Rattle.clause_set.specs.Stores.{Fits, add-clauses, after};
-ghost use Rattle.mixed.specs.Enumerate.{bounded, enumerate};
+ghost use Rattle.log_encoding.specs.Enumerate.{bounded, enumerate};
 ghost use Rattle.mixed.specs.Infos.{AllSmall, Small, equated, info-lit, info-term, infos-left, negated-info};
 ghost use Rattle.mixed.specs.Table.{Filled, SamePrefix, SoundTable, counts, put-last, put-rows, walk};
 use clause_set::Clause;

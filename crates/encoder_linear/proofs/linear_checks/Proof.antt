@@ -9,7 +9,7 @@ use lib.IntN.{ℤ}
 use mir.Syntax.{w32}
 use mir.Val.{ofZ, toZ}
 use mir.ValLaws.{toZ-ofZ}
-use Rattle.log_adder.specs.Size.{greatest-height, too-tall}
+use Rattle.log_encoding.specs.AdderSize.{greatest-height, too-tall}
 use Rattle.encoder_answer.specs.Outcome.{Check, check, status-of}
 use Rattle.encoder_linear.specs.Sums.{argument-checks, sum-reached}
 use Rattle.encoder_linear.proofs.Added.{arguments-known, arguments-numbered}

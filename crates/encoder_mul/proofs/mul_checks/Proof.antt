@@ -6,7 +6,7 @@ use mathlib.Core.Bool.{_&&_, true}
 use mathlib.Core.List.{List, _∷_}
 use lib.Dec.{ltb}
 use lib.ListN.{drop}
-use Rattle.log_adder.specs.Size.{greatest-height}
+use Rattle.log_encoding.specs.AdderSize.{greatest-height}
 use Rattle.encoder_env.specs.WellFormed.{well-formed}
 use Rattle.encoder_env.proofs.Kept.{kept}
 use Rattle.encoder_answer.specs.Outcome.{Check, check, status-of}

@@ -1,7 +1,7 @@
 -- `log_adder::greatest_height` meets its contract.
 use Prim.Native.Nat.{_-_}
 use native.Mathlib.Omega.{arith}
-use Rattle.log_adder.proofs.Heights.{HeightsLeft, heights-end, heights-start, heights-turn}
+use Rattle.log_encoding.proofs.Heights.{HeightsLeft, heights-end, heights-start, heights-turn}
 use borrow.Author.Needs.{needs}
 use Rattle.log_adder.proofs.greatest_height.Statement.{statement}
 use Rattle.log_adder.proofs.greatest_height.Tie as tie

@@ -3,7 +3,7 @@ use mathlib.Core.Path.{ap, sym, _∙_}
 use native.Mathlib.Omega.{arith}
 use Rattle.clause_set.specs.Stores.{add-clauses, after}
 use Rattle.clause_set.proofs.Adding.{add-append}
-use Rattle.log_adder.specs.Adder2.{returned-set}
+use Rattle.log_encoding.specs.Adder2.{returned-set}
 use Rattle.log_adder2.specs.EqState.{eq-output}
 use borrow.Author.Needs.{needs}
 use Rattle.log_adder2.proofs.log_encoding_adder2.Statement.{statement}

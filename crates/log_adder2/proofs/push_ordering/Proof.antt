@@ -9,7 +9,7 @@ use Rattle.sat.specs.Lit.{neg}
 use Rattle.clause_set.specs.Clause.{clause-lits}
 use Rattle.clause_set.specs.Stores.{add-clauses, after}
 use Rattle.clause_set.proofs.Adding.{Going, going-fits, going-start, going-turn}
-use Rattle.log_adder.specs.Adder2.{ordering}
+use Rattle.log_encoding.specs.Adder2.{ordering}
 use Rattle.log_adder2.proofs.Ordering.{ordering-none, ordering-size, ordering-step}
 use Rattle.log_adder2.proofs.push_ordering.Statement.{statement}
 use Rattle.log_adder2.proofs.push_ordering.Tie as tie

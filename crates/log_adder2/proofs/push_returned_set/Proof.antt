@@ -8,7 +8,7 @@ use lib.ListN.{length}
 use Rattle.sat.specs.declared.Var.{Var}
 use Rattle.sat.specs.Clause.{Clauses}
 use Rattle.clause_set.specs.Stores.{Stores, add-clauses, after}
-use Rattle.log_adder.specs.Adder2.{returned-set}
+use Rattle.log_encoding.specs.Adder2.{returned-set}
 use Rattle.log_adder2.specs.EqState.{carries, columns-clauses, eq-output, is-dead, no-vars}
 use Rattle.log_adder2.specs.declared.Column.the-variants.{Carry}
 use Rattle.log_adder2.proofs.ColumnsPass.{returned-columns, returned-dead}

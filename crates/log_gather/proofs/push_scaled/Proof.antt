@@ -9,7 +9,7 @@ use native.Mathlib.Omega.{arith}
 use borrow.Author.Needs.{needs}
 use Rattle.log_gather.proofs.push_scaled.Statement.{statement}
 use Rattle.log_gather.proofs.push_scaled.Tie as tie
-use Rattle.log_adder.specs.Gather.{push-value}
+use Rattle.log_encoding.specs.Gather.{push-value}
 use Rattle.sat.specs.LitArray.{first-lits}
 use Rattle.log_gather.proofs.Pushing.{Scaling, pushed-bit, pushed-no-bit, scaling-end, scaling-start, scaling-turn}
 

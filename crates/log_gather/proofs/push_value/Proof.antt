@@ -6,7 +6,7 @@ use Prim.Native.Nat.{_+_, _-_, _<_, _≤_}
 use native.Mathlib.Omega.{arith}
 use lib.ListN.{length, getD, set}
 use Rattle.sat.specs.LitArray.{first-lits, lit}
-use Rattle.log_adder.specs.Gather.{push-value}
+use Rattle.log_encoding.specs.Gather.{push-value}
 use Rattle.log_gather.specs.Arrays.{Pushed}
 use Rattle.log_gather.proofs.Pushing.{pushed-past, pushed-start, pushed-stored, pushed-then, push-more}
 use borrow.Author.Needs.{needs}

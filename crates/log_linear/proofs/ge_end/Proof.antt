@@ -9,7 +9,7 @@ use native.Mathlib.Omega.{arith}
 use lib.ListN.{drop, length, length-drop, length-map}
 use Rattle.sat.specs.LitArray.{first-lits}
 use Rattle.log_linear.specs.SubLit.{sub-clauses, sub-lits, sub-of}
-use Rattle.log_linear.specs.Compare.{none-of}
+use Rattle.log_encoding.specs.Compare.{none-of}
 use Rattle.log_linear.proofs.Adding.{added-as, added-then}
 use Rattle.log_linear.proofs.Comparing.{ge-end-none, ge-end-some, sub-size}
 use Rattle.log_linear.proofs.Literals.{lits-none, lits-long}

@@ -9,7 +9,7 @@ use native.Mathlib.Omega.{arith}
 use Rattle.clause_set.specs.Stores.{add-clauses, after}
 use Rattle.clause_set.proofs.Adding.{Going, going-start, going-turn}
 use Rattle.sat.specs.LitArray.{first-lits}
-use Rattle.log_linear.specs.Compare.{none-of}
+use Rattle.log_encoding.specs.Compare.{none-of}
 use Rattle.log_linear.proofs.Adding.{added}
 use Rattle.log_linear.proofs.Literals.{lits-next, lits-none, lits-long}
 use Rattle.log_linear.proofs.Comparing.{none-of-size}

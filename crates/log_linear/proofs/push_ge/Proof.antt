@@ -9,7 +9,7 @@ use Prim.Native.Nat.{ℕ, _+_, _-_, _*_, _≤_}
 use native.Mathlib.Omega.{arith}
 use lib.ListN.{drop, getD, length, length-drop, length-map}
 use Rattle.sat.specs.LitArray.{first-lits, lit}
-use Rattle.log_linear.specs.Linear.{ge-bits}
+use Rattle.log_encoding.specs.Linear.{ge-bits}
 use Rattle.log_linear.specs.SubLit.{ge-end, ge-gate, ge-left, sub-lits, sub-of}
 use Rattle.log_linear.proofs.Adding.{added-as}
 use Rattle.log_linear.proofs.Comparing.{RuleGoing, ge-end-is, ge-gate-size, ge-step, rule-end, rule-start, rule-turn}

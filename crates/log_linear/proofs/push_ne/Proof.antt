@@ -9,7 +9,7 @@ use native.Mathlib.Omega.{arith}
 use lib.ListN.{drop, getD, length, length-drop, length-map}
 use Rattle.clause_set.specs.Clause.{clause-lits}
 use Rattle.sat.specs.LitArray.{first-lits, lit}
-use Rattle.log_linear.specs.Compare.{ne-bits, xor-gate}
+use Rattle.log_encoding.specs.Compare.{ne-bits, xor-gate}
 use Rattle.log_linear.proofs.Adding.{added-as}
 use Rattle.log_linear.proofs.Comparing.{RuleGoing, ne-end, ne-step, rule-end, rule-start, rule-turn}
 use Rattle.log_linear.proofs.Literals.{lits-next, lits-long}

@@ -3,7 +3,7 @@ use mathlib.Core.Path.{_≡_, ap, sym, _∙_}
 use Prim.Native.Nat.{_≤_}
 use lib.ListN.{length, length-map}
 use native.Mathlib.Omega.{arith}
-use Rattle.log_adder.specs.Size.{too-tall}
+use Rattle.log_encoding.specs.AdderSize.{too-tall}
 use Rattle.log_mul.proofs.RowColumns.{multiplier-added, multiplier-reaches}
 use borrow.Author.Needs.{needs}
 use Rattle.log_mul.proofs.log_encoding_multiplier.Statement.{statement}

@@ -1,7 +1,7 @@
 -- `log_mul::multiplier_height` meets its contract.
 use mathlib.Core.Path.{ap, _∙_}
 use native.Mathlib.Omega.{arith}
-use Rattle.log_adder.specs.Size.{greatest-height}
+use Rattle.log_encoding.specs.AdderSize.{greatest-height}
 use Rattle.log_mul.proofs.RowColumns.{multiplier-reaches}
 use borrow.Author.Needs.{needs}
 use Rattle.log_mul.proofs.multiplier_height.Statement.{statement}

@@ -4,8 +4,8 @@ use mathlib.Core.Path.{_≡_, ap, sym, _∙_}
 use native.Mathlib.Omega.{arith}
 use lib.ListN.{length}
 use mathlib.Core.List.{[]}
-use Rattle.log_adder.specs.Size.{pad-shapes}
-use Rattle.log_mul.specs.Size.{rows-counts}
+use Rattle.log_encoding.specs.AdderSize.{pad-shapes}
+use Rattle.log_encoding.specs.MulSize.{rows-counts}
 use Rattle.log_mul.proofs.RowColumns.{width-none, width-some}
 use borrow.Author.Needs.{needs}
 use Rattle.log_mul.proofs.multiplier_width.Statement.{statement}

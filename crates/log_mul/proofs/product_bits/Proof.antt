@@ -3,8 +3,8 @@ use Prim.Native.Nat.{_*_, _≤_}
 use mathlib.Core.Path.{_≡_, ap}
 use lib.ListN.{length}
 use native.Mathlib.Omega.{arith}
-use Rattle.log_adder.specs.Size.{input-shapes, reached}
-use Rattle.log_mul.specs.Size.{multiplier-reached}
+use Rattle.log_encoding.specs.AdderSize.{input-shapes, reached}
+use Rattle.log_encoding.specs.MulSize.{multiplier-reached}
 use Rattle.log_mul.proofs.Numbered.{multiplier-few, product-numbered}
 use Rattle.log_mul.proofs.RowColumns.{multiplier-reaches}
 use Rattle.log_mul.proofs.Rows.{gates-most}

@@ -6,7 +6,7 @@ use lib.Dec.{lit<}
 use native.Mathlib.Omega.{arith}
 use Rattle.sat.specs.LitArray.{lit}
 use Rattle.sat.specs.declared.Lit.{Lit}
-use Rattle.log_adder.specs.Size.{Reached, input-shapes, reached}
+use Rattle.log_encoding.specs.AdderSize.{Reached, input-shapes, reached}
 use Rattle.log_adder.proofs.ColumnTerms.{every-replicate}
 use Rattle.log_mul.proofs.Numbered.{ColumnsLeft, PastLeft, columns-end, columns-some, columns-start, columns-turn, past-again, past-end, past-some}
 use borrow.Author.Needs.{needs}

@@ -5,13 +5,13 @@ use native.Mathlib.Omega.{arith}
 use Rattle.sat.specs.Encoded.{EncodedRule}
 use Rattle.clause_set.specs.Stores.{after}
 use Rattle.log_var.specs.Record.{encoding-of}
-use Rattle.log_var.specs.Size.{setting-shape}
-use Rattle.log_adder.specs.Size.{too-tall}
+use Rattle.log_encoding.specs.VarSize.{setting-shape}
+use Rattle.log_encoding.specs.AdderSize.{too-tall}
 use Rattle.log_linear.specs.Added.{add-rule}
 use Rattle.log_terms.proofs.Gathering.{all-low}
-use Rattle.log_mul.specs.EncodeMulLog.{is-zero}
-use Rattle.log_mul.specs.Multiply.{product}
-use Rattle.log_mul.specs.Size.{multiplier-reached, no-offsets}
+use Rattle.log_encoding.specs.EncodeMulLog.{is-zero}
+use Rattle.log_encoding.specs.Multiply.{product}
+use Rattle.log_encoding.specs.MulSize.{multiplier-reached, no-offsets}
 use Rattle.log_product.proofs.OffsetSum.{encode-offsets, encode-zero, reached-offsets, reached-zero}
 use Rattle.log_product.proofs.OffsetTerms.{offset-is}
 use borrow.Author.Needs.{needs}

@@ -3,7 +3,7 @@ use mathlib.Core.Path.{_∙_}
 use mathlib.Core.List.{[], _∷_}
 use native.Mathlib.Omega.{arith}
 use lib.IntN.{negsuc}
-use Rattle.log_linear.specs.EncodeLinearLog.{weighted}
+use Rattle.log_encoding.specs.EncodeLinearLog.{weighted}
 use Rattle.log_product.proofs.OffsetTerms.{four-fit, offset-is, offset-reach, product-reach}
 use borrow.Author.Needs.{needs}
 use Rattle.log_product.proofs.offset_terms.Statement.{statement}

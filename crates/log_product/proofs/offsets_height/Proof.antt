@@ -10,14 +10,14 @@ use mir.ValLaws.{toZ-ofZ}
 use Rattle.arithmetic.specs.Integers.{down, up}
 use Rattle.norm_csp.specs.Rules.{eq}
 use Rattle.log_var.specs.Record.{encoding-of, lits-of}
-use Rattle.log_var.specs.Size.{setting-shape}
-use Rattle.log_adder.specs.Size.{Reached, greatest-height}
+use Rattle.log_encoding.specs.VarSize.{setting-shape}
+use Rattle.log_encoding.specs.AdderSize.{Reached, greatest-height}
 use Rattle.log_linear.specs.Added.{bits-of}
-use Rattle.log_linear.specs.Size.{linear-reached}
+use Rattle.log_encoding.specs.LinearSize.{linear-reached}
 use Rattle.log_linear.proofs.Literals.{lits-long}
 use Rattle.log_terms.specs.Terms.{weighted-all}
-use Rattle.log_mul.specs.EncodeMulLog.{mul-constant}
-use Rattle.log_mul.specs.Size.{multiplier-reached, offset-shapes}
+use Rattle.log_encoding.specs.EncodeMulLog.{mul-constant}
+use Rattle.log_encoding.specs.MulSize.{multiplier-reached, offset-shapes}
 use Rattle.log_product.proofs.OffsetSum.{shapes-reached}
 use Rattle.log_sum.proofs.Compared.{height-append}
 use Rattle.log_product.proofs.OffsetTerms.{offset-is}

@@ -10,15 +10,15 @@ use mir.ValLaws.{toZ-ofZ}
 use Rattle.sat.specs.Encoded.{EncodedRule}
 use Rattle.clause_set.specs.Stores.{after}
 use Rattle.log_var.specs.Record.{encoding-of, lits-of}
-use Rattle.log_adder.specs.Adder2.{eq-adder}
-use Rattle.log_adder.specs.Size.{too-tall}
+use Rattle.log_encoding.specs.Adder2.{eq-adder}
+use Rattle.log_encoding.specs.AdderSize.{too-tall}
 use Rattle.log_linear.specs.Added.{add-rule}
-use Rattle.log_linear.specs.Linear.{gather}
+use Rattle.log_encoding.specs.Linear.{gather}
 use Rattle.log_linear.specs.declared.Bits.{Bits}
 use Rattle.log_terms.specs.Terms.{weighted-all}
-use Rattle.log_mul.specs.EncodeMulLog.{mul-constant, offset-terms}
-use Rattle.log_mul.specs.Multiply.{multiplier}
-use Rattle.log_mul.specs.Size.{multiplier-reached}
+use Rattle.log_encoding.specs.EncodeMulLog.{mul-constant, offset-terms}
+use Rattle.log_encoding.specs.Multiply.{multiplier}
+use Rattle.log_encoding.specs.MulSize.{multiplier-reached}
 use Rattle.log_product.specs.Ready.{BitsReady, FactorsReady, multiply-then}
 use Rattle.log_product.proofs.OffsetSum.{offsets-are, offsets-columns, offsets-multiplier, offsets-none}
 use Rattle.log_product.proofs.OffsetTerms.{offset-is}

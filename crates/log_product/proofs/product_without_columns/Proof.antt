@@ -7,12 +7,12 @@ use lib.ListN.{length, length-map}
 use native.Mathlib.Omega.{arith}
 use Rattle.sat.specs.LitArray.{lit}
 use Rattle.sat.specs.declared.Lit.{Lit}
-use Rattle.log_adder.specs.Size.{too-tall}
+use Rattle.log_encoding.specs.AdderSize.{too-tall}
 use Rattle.log_adder.proofs.ColumnTerms.{every-replicate}
 use Rattle.log_linear.specs.Added.{bits-of}
 use Rattle.log_linear.proofs.Literals.{lits-long}
-use Rattle.log_mul.specs.Multiply.{multiplier}
-use Rattle.log_mul.specs.Size.{multiplier-reached}
+use Rattle.log_encoding.specs.Multiply.{multiplier}
+use Rattle.log_encoding.specs.MulSize.{multiplier-reached}
 use Rattle.log_product.proofs.Most.{MultiplierMost, multiplied-most, multiplier-most}
 use Rattle.log_product.proofs.OffsetSum.{without-columns}
 use borrow.Author.Needs.{needs}

@@ -4,11 +4,11 @@ use mathlib.Core.Path.{_≡_, ap, sym, _∙_}
 use native.Mathlib.Omega.{arith}
 use lib.ListN.{length, length-map}
 use Rattle.log_var.specs.Record.{encoding-of, lits-of}
-use Rattle.log_var.specs.Size.{setting-shape}
-use Rattle.log_adder.specs.Size.{greatest-height}
+use Rattle.log_encoding.specs.VarSize.{setting-shape}
+use Rattle.log_encoding.specs.AdderSize.{greatest-height}
 use Rattle.log_linear.proofs.Literals.{lits-long}
-use Rattle.log_mul.specs.EncodeMulLog.{is-zero}
-use Rattle.log_mul.specs.Size.{multiplier-reached, no-offsets}
+use Rattle.log_encoding.specs.EncodeMulLog.{is-zero}
+use Rattle.log_encoding.specs.MulSize.{multiplier-reached, no-offsets}
 use Rattle.log_product.proofs.OffsetSum.{reached-offsets, reached-zero}
 use Rattle.log_product.proofs.OffsetTerms.{offset-is}
 use borrow.Author.Needs.{needs}

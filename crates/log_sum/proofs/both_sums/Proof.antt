@@ -4,8 +4,8 @@ use Rattle.log_sum.proofs.both_sums.Tie as tie
 use mathlib.Core.Path.{_∙_}
 use mathlib.Core.Bool.{false, true}
 use native.Mathlib.Omega.{arith}
-use Rattle.log_linear.specs.Linear.{sign-adder}
-use Rattle.log_linear.specs.Size.{sign-reached}
+use Rattle.log_encoding.specs.Linear.{sign-adder}
+use Rattle.log_encoding.specs.LinearSize.{sign-reached}
 use Rattle.log_terms.specs.Terms.{shapes-all, weighted-all}
 use Rattle.log_sum.proofs.Compared.{both-fit, sums-added}
 

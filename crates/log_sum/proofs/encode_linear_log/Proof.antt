@@ -13,9 +13,9 @@ use mir.ValLaws.{toZ-ofZ}
 use Rattle.sat.specs.Encoded.{EncodedRule}
 use Rattle.clause_set.specs.Stores.{after}
 use Rattle.norm_csp.specs.Rules.{op-of, terms-of}
-use Rattle.log_adder.specs.Size.{too-tall}
+use Rattle.log_encoding.specs.AdderSize.{too-tall}
 use Rattle.log_linear.specs.Added.{add-rule}
-use Rattle.log_linear.specs.EncodeLinearLog.{offset-constant}
+use Rattle.log_encoding.specs.EncodeLinearLog.{offset-constant}
 use Rattle.log_var.specs.Record.{int-map-of}
 use Rattle.log_sum.proofs.Settings.{encoded-is, reached-is}
 

@@ -12,9 +12,9 @@ use Rattle.arithmetic.specs.Integers.{down, up}
 use Rattle.sat.specs.Encoded.{EncodedRule}
 use Rattle.clause_set.specs.Stores.{after}
 use Rattle.norm_csp.specs.Rules.{eq, op-of}
-use Rattle.log_adder.specs.Size.{too-tall}
+use Rattle.log_encoding.specs.AdderSize.{too-tall}
 use Rattle.log_linear.specs.Added.{add-rule}
-use Rattle.log_linear.specs.Size.{linear-reached, sign-reached}
+use Rattle.log_encoding.specs.LinearSize.{linear-reached, sign-reached}
 use Rattle.log_terms.specs.Terms.{shapes-all, weighted-all}
 use Rattle.log_sum.proofs.Parts.{encode-compared, encode-eq, reached-parts}
 

@@ -10,8 +10,8 @@ use mir.Syntax.{w32}
 use mir.Val.{ofZ, toZ}
 use mir.ValLaws.{toZ-ofZ}
 use Rattle.norm_csp.specs.Rules.{op-of, terms-of}
-use Rattle.log_adder.specs.Size.{greatest-height}
-use Rattle.log_linear.specs.EncodeLinearLog.{offset-constant}
+use Rattle.log_encoding.specs.AdderSize.{greatest-height}
+use Rattle.log_encoding.specs.EncodeLinearLog.{offset-constant}
 use Rattle.log_var.specs.Record.{int-map-of}
 use Rattle.log_sum.proofs.Settings.{reached-is}
 

@@ -4,7 +4,7 @@ use Rattle.log_sum.proofs.sign_height.Statement.{statement}
 use Rattle.log_sum.proofs.sign_height.Tie as tie
 use mathlib.Core.Path.{_∙_, ap, refl}
 use native.Mathlib.Omega.{arith}
-use Rattle.log_adder.specs.Size.{greatest-height}
+use Rattle.log_encoding.specs.AdderSize.{greatest-height}
 use Rattle.log_terms.specs.Terms.{weighted-all}
 use Rattle.log_sum.proofs.SignSum.{sign-reaches}
 

@@ -4,7 +4,7 @@ use Rattle.log_sum.proofs.weighted_comparison.Statement.{statement}
 use Rattle.log_sum.proofs.weighted_comparison.Tie as tie
 use mathlib.Core.Path.{_∙_}
 use mathlib.Core.Bool.{false, true}
-use Rattle.log_linear.specs.Linear.{comparison, sign-adder}
+use Rattle.log_encoding.specs.Linear.{comparison, sign-adder}
 use native.Mathlib.Omega.{arith}
 use Rattle.log_terms.specs.Terms.{weighted-all}
 use Rattle.log_sum.proofs.Compared.{compared}

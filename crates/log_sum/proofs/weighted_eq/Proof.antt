@@ -7,7 +7,7 @@ use Prim.Native.Nat.{_≤_}
 use native.Mathlib.Omega.{arith}
 use Rattle.sat.specs.Encoded.{EncodedRule}
 use Rattle.clause_set.specs.Stores.{after}
-use Rattle.log_adder.specs.Size.{too-tall}
+use Rattle.log_encoding.specs.AdderSize.{too-tall}
 use Rattle.log_linear.specs.Added.{add-rule}
 use Rattle.log_terms.proofs.Gathering.{fit-twelve}
 use Rattle.log_terms.specs.Terms.{weighted-all}

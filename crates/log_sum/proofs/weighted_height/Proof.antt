@@ -9,8 +9,8 @@ use native.Mathlib.Omega.{arith}
 use mir.Syntax.{w32}
 use mir.ValLaws.{toZ-ofZ}
 use Rattle.arithmetic.specs.Integers.{down, up}
-use Rattle.log_adder.specs.Size.{greatest-height}
-use Rattle.log_linear.specs.Size.{sign-reached}
+use Rattle.log_encoding.specs.AdderSize.{greatest-height}
+use Rattle.log_encoding.specs.LinearSize.{sign-reached}
 use Rattle.log_terms.specs.Terms.{shapes-all}
 use Rattle.log_sum.proofs.Parts.{higher-part}
 

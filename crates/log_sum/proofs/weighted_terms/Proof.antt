@@ -9,7 +9,7 @@ use lib.IntN.{pos}
 use lib.ListN.{getD, length}
 use mir.Syntax.{w32}
 use mir.ValLaws.{toZ-ofZ}
-use Rattle.log_linear.specs.EncodeLinearLog.{weighted}
+use Rattle.log_encoding.specs.EncodeLinearLog.{weighted}
 use Rattle.log_var.specs.Record.{int-map-of}
 use Rattle.log_sum.proofs.Settings.{Weighing, weighing-end, weighing-start, weighing-turn}
 

@@ -7,7 +7,7 @@ use mathlib.Core.List.{List, []}
 use Prim.Native.Nat.{_-_, _≤_}
 use native.Mathlib.Omega.{arith}
 use lib.ListN.{getD, length}
-use Rattle.log_linear.specs.Linear.{Weighted, gather, positive-lits, push-scaled-some}
+use Rattle.log_encoding.specs.Linear.{Weighted, gather, positive-lits, push-scaled-some}
 use Rattle.log_terms.specs.Terms.{no-term, weighted-all, weighted-of}
 use Rattle.log_terms.proofs.Gathering.{terms-next, terms-none, Gathering, gathering-end, gathering-few, gathering-start, gathering-turn}
 

@@ -8,9 +8,9 @@ use mathlib.Core.List.{List, [], _∷_}
 use Prim.Native.Nat.{_-_, _≤_}
 use native.Mathlib.Omega.{arith}
 use lib.ListN.{getD, length}
-use Rattle.log_adder.specs.Gather.{push-scaled}
+use Rattle.log_encoding.specs.Gather.{push-scaled}
 use Rattle.sat.specs.LitArray.{first-lits}
-use Rattle.log_linear.specs.Linear.{Weighted, gather-sign}
+use Rattle.log_encoding.specs.Linear.{Weighted, gather-sign}
 use Rattle.log_terms.specs.Terms.{no-term, weighted-all}
 use Rattle.log_terms.proofs.Gathering.{terms-next, terms-none, Gathering, empty-column, gathering-end, gathering-few, gathering-start, gathering-turn}
 

@@ -7,7 +7,7 @@ use mathlib.Core.List.{_∷_}
 use Prim.Native.Nat.{_+_, _-_, _*_, _≤_}
 use native.Mathlib.Omega.{arith}
 use lib.ListN.{drop, getD, length}
-use Rattle.log_linear.specs.Linear.{negated-constant}
+use Rattle.log_encoding.specs.Linear.{negated-constant}
 use Rattle.log_terms.specs.Terms.{no-term, weighted-all, weighted-of}
 use Rattle.log_terms.proofs.Gathering.{terms-next, terms-none, term-long}
 

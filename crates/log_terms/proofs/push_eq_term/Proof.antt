@@ -7,11 +7,11 @@ use Prim.Native.Nat.{ℕ, _<_}
 use native.Mathlib.Omega.{arith}
 use lib.ListN.{length}
 use Rattle.sat.specs.Lit.{neg}
-use Rattle.log_adder.specs.Gather.{push-scaled}
+use Rattle.log_encoding.specs.Gather.{push-scaled}
 use Rattle.sat.specs.LitArray.{first-lits}
-use Rattle.log_linear.specs.Linear.{positive-lits}
+use Rattle.log_encoding.specs.Linear.{positive-lits}
 use Rattle.log_terms.specs.Terms.{weighted-of}
-use Rattle.log_linear.proofs.Size.{length-positive}
+use Rattle.log_encoding.proofs.LinearSize.{length-positive}
 use Rattle.log_terms.proofs.Gathering.{all-low, enough, none-pushed, pushed-as, pushed-nothing, some-pushed, term-long}
 
 -- how many literals there are

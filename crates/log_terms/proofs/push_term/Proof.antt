@@ -3,7 +3,7 @@ use Rattle.log_terms.proofs.push_term.Statement.{statement}
 use Rattle.log_terms.proofs.push_term.Tie as tie
 use native.Mathlib.Omega.{arith}
 use Rattle.sat.specs.LitArray.{first-lits}
-use Rattle.log_adder.specs.Gather.{push-scaled}
+use Rattle.log_encoding.specs.Gather.{push-scaled}
 use Rattle.log_terms.proofs.Gathering.{all-low, enough, pushed-as, pushed-nothing}
 
 push-scaled-requires : tie.Need-push-scaled-requires

@@ -7,9 +7,9 @@ use mathlib.Core.List.{List, []}
 use Prim.Native.Nat.{ℕ, _-_, _≤_}
 use native.Mathlib.Omega.{arith}
 use lib.ListN.{getD, length}
-use Rattle.log_linear.specs.Linear.{Weighted, gather, positive-lits, push-scaled-some}
+use Rattle.log_encoding.specs.Linear.{Weighted, gather, positive-lits, push-scaled-some}
 use Rattle.log_terms.specs.Terms.{no-term, some-width, weighted-all, weighted-of}
-use Rattle.log_linear.proofs.Size.{length-positive}
+use Rattle.log_encoding.proofs.LinearSize.{length-positive}
 use Rattle.log_terms.proofs.Gathering.{terms-next, terms-none, WidthLeft, some-length, term-long, width-end, width-start, width-turn}
 
 abbrev Inv-loop : tie.InvT-loop

@@ -8,10 +8,10 @@ use mathlib.Core.List.{List, [], _∷_}
 use Prim.Native.Nat.{ℕ, _-_, _≤_}
 use native.Mathlib.Omega.{arith}
 use lib.ListN.{getD, length}
-use Rattle.log_adder.specs.Gather.{push-scaled}
+use Rattle.log_encoding.specs.Gather.{push-scaled}
 use Rattle.log_gather.specs.Arrays.{widths}
 use Rattle.sat.specs.LitArray.{first-lits}
-use Rattle.log_linear.specs.Linear.{Weighted, gather-sign}
+use Rattle.log_encoding.specs.Linear.{Weighted, gather-sign}
 use Rattle.log_terms.specs.Terms.{no-term, weighted-all, weighted-of}
 use Rattle.log_terms.proofs.Gathering.{terms-next, terms-none, WidthLeft, sign-length, term-long, width-end, width-start, width-turn}
 

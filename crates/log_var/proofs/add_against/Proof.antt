@@ -8,7 +8,7 @@ use lib.ListN.{length}
 use lib.Seq.{sets}
 use Rattle.sat.specs.Fresh.{fresh}
 use Rattle.clause_set.specs.Stores.{after}
-use Rattle.log_var.specs.Domain.{against}
+use Rattle.log_encoding.specs.Domain.{against}
 use Rattle.log_var.proofs.Steps.{against-added, against-fits, against-none, against-start, against-turn}
 use Rattle.log_var.proofs.add_against.Statement.{statement}
 use Rattle.log_var.proofs.add_against.Tie as tie

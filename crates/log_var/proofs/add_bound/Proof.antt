@@ -9,7 +9,7 @@ use Rattle.arithmetic.specs.Bits.{odd}
 use Rattle.sat.specs.Fresh.{fresh}
 use Rattle.clause_set.proofs.Adding.{Going, going-fits, going-turn}
 use Rattle.log_var.specs.Parts.{bound}
-use Rattle.log_var.specs.Domain.{against}
+use Rattle.log_encoding.specs.Domain.{against}
 use Rattle.log_var.proofs.Steps.{bound-end, bound-step, fresh-start, going-end, going-restart}
 use Rattle.log_var.proofs.add_bound.Statement.{statement}
 use Rattle.log_var.proofs.add_bound.Tie as tie

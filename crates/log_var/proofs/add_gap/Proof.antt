@@ -5,7 +5,7 @@ use Prim.Native.Nat.{_+_, _-_, _≤_}
 use native.Mathlib.Omega.{arith}
 use Rattle.sat.specs.Fresh.{fresh}
 use Rattle.clause_set.proofs.Adding.{Going, going-fits, going-turn}
-use Rattle.log_var.specs.Domain.{against, gap}
+use Rattle.log_encoding.specs.Domain.{against, gap}
 use Rattle.log_var.proofs.Steps.{gap-end, gap-start, gap-step, going-end, going-restart}
 use Rattle.log_var.proofs.add_gap.Statement.{statement}
 use Rattle.log_var.proofs.add_gap.Tie as tie

@@ -9,7 +9,7 @@ use Rattle.arithmetic.specs.Offset.{code}
 use Rattle.sat.specs.Clause.{Clauses}
 use Rattle.sat.specs.Fresh.{fresh}
 use Rattle.clause_set.specs.Stores.{Fits, add-clauses, after}
-use Rattle.log_var.specs.Domain.{gap}
+use Rattle.log_encoding.specs.Domain.{gap}
 use Rattle.log_var.proofs.Lists.{GapFits, gap-fits}
 use Rattle.log_var.proofs.add_gap_between.Statement.{statement}
 use Rattle.log_var.proofs.add_gap_between.Tie as tie

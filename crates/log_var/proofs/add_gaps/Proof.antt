@@ -14,7 +14,7 @@ use Rattle.sat.specs.Fresh.{fresh}
 use Rattle.clause_set.specs.Stores.{Fits, add-clauses, after}
 use Rattle.clause_set.proofs.Adding.{Going, going-fits, going-start, going-turn}
 use Rattle.log_var.specs.Parts.{RisingAt, gaps-from}
-use Rattle.log_var.specs.Domain.{gap}
+use Rattle.log_encoding.specs.Domain.{gap}
 use Rattle.log_var.proofs.Lists.{gaps-end, gaps-step, next-rises, rising-gap, rising-step}
 use Rattle.log_var.proofs.Steps.{going-end}
 use Rattle.log_var.proofs.add_gaps.Statement.{statement}

@@ -8,7 +8,7 @@ use native.Mathlib.Omega.{arith}
 use borrow.Author.Needs.{needs}
 use lib.ListN.{length, getD}
 use Rattle.mixed.specs.declared.LinearInfo.{LinearInfo}
-use Rattle.mixed.specs.Enumerate.{branch, enumerate}
+use Rattle.log_encoding.specs.Enumerate.{branch, enumerate}
 use Rattle.mixed.specs.Infos.{no-info, info-lit, thresholds, info-term, infos-left}
 use Rattle.clause_set.specs.Clause.{clause-lits}
 use Rattle.clause_set.proofs.Adding.{Going, going-start, going-fits, going-turn}

@@ -3,7 +3,7 @@ use mathlib.Core.List.{List, [], _∷_, map}
 use mathlib.Core.Path.{_≡_, ap, refl, sym, _∙_}
 use Prim.Native.Nat.{_-_, ℕ}
 use native.Mathlib.Omega.{arith}
-use Rattle.mixed.specs.Enumerate.{bounded, enumerate}
+use Rattle.log_encoding.specs.Enumerate.{bounded, enumerate}
 use Rattle.clause_set.specs.Clause.{clause-lits}
 use Rattle.mixed.specs.Infos.{info-term, infos-left}
 use Rattle.mixed.proofs.Infos.{bounded-dead, bounded-live}

@@ -4,7 +4,7 @@ use mathlib.Core.Path.{_≡_, sym, _∙_}
 use mathlib.Core.List.{[], _∷_}
 use Prim.Native.Nat.{_/_, _<_}
 use native.Mathlib.Omega.{arith}
-use Rattle.mixed.specs.Enumerate.{enumerate}
+use Rattle.log_encoding.specs.Enumerate.{enumerate}
 use Rattle.mixed.specs.Infos.{info-term}
 use Rattle.clause_set.specs.Clause.{clause-lits}
 use Rattle.mixed.proofs.Infos.{below, factor, covers, last-one, last-none}

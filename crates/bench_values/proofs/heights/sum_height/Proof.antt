@@ -10,7 +10,7 @@ use lib.IntN.{ℤ}
 use mir.Syntax.{w32}
 use mir.Val.{ofZ, toZ}
 use mir.ValLaws.{toZ-ofZ}
-use Rattle.log_adder.specs.Size.{greatest-height}
+use Rattle.log_encoding.specs.AdderSize.{greatest-height}
 use Rattle.encoder_answer.specs.Outcome.{status-of}
 use Rattle.encoder_linear.specs.Sums.{argument-checks, sum-reached}
 use Rattle.encoder_linear.proofs.Added.{ArgumentsKnown, arguments-known}
