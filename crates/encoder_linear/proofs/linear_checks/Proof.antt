@@ -64,14 +64,14 @@ returns-2 : tie.Need-returns-2
 returns-2 c =
     let t = c .before in
     let s = t .before .before .before .before in
-    let k : 13 ≡ status-of (first s ++ last s) = sym (rest t ∙ rw (height-is t, lt-ltb _ _ (c .if2 .taken))) in
+    let k : 13 ≡ status-of (first s ++ last s) = sym (rest t ∙ rw (height-is t, lt-ltb 12 _ (c .if2 .taken))) in
     rw (toZ-ofZ w32 (s .args .constant) (s .fits .constant)) at k
 
 returns-3 : tie.Need-returns-3
 returns-3 c =
     let t = c .before in
     let s = t .before .before .before .before in
-    let k : 0 ≡ status-of (first s ++ last s) = sym (rest t ∙ rw (height-is t, le-ltb _ _ (c .if2 .left))) in
+    let k : 0 ≡ status-of (first s ++ last s) = sym (rest t ∙ rw (height-is t, le-ltb 12 _ (c .if2 .left))) in
     rw (toZ-ofZ w32 (s .args .constant) (s .fits .constant)) at k
 
 pub linear-checks-spec : {M : Type 1} → statement M

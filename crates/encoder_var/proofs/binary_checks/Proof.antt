@@ -38,11 +38,11 @@ past1 c = rw (held c)
 mul-if2 : tie.Need-mul-if2
 mul-if2 c = let a = c .before .before .before .args in let k = kept (a .env) (a .lits) (a .ends) (held (c .before)) in record { fits = omega (arith, k .switches-max) }
 
-returns-2 : tie.Need-returns-2
-returns-2 c = sym (past1 (c .before .before .before) ∙ rw (le-ltb _ _ (c .if2 .taken)))
-
 past2 : (c : tie.Else2) → FirstHold 2 (checks (c .before .before .before .before .before))
 past2 c = past1 (c .before .before .before) ∙ rw (lt-ltb _ _ (c .if2 .left))
+
+returns-2 : tie.Need-returns-2
+returns-2 c = sym (past1 (c .before .before .before) ∙ rw (le-ltb _ _ (c .if2 .taken)))
 
 in-range-requires : tie.Need-in-range-requires
 in-range-requires c κs = search needs
@@ -101,10 +101,10 @@ past6 : (c : tie.Else6) → FirstHold 5 (checks (c .before .before .before .befo
 past6 c = past5 (c .before .before) ∙ rw (code-tested (c .before) ∙ not-false _ (c .if6 .left))
 
 returns-7 : tie.Need-returns-7
-returns-7 c = sym (past6 (c .before .before) ∙ rw (le-ltb _ _ (c .if7 .taken)))
+returns-7 c = sym (past6 (c .before .before) ∙ rw (le-ltb _ 32 (c .if7 .taken)))
 
 returns-8 : tie.Need-returns-8
-returns-8 c = sym (past6 (c .before .before) ∙ rw (lt-ltb _ _ (c .if7 .left)))
+returns-8 c = sym (past6 (c .before .before) ∙ rw (lt-ltb _ 32 (c .if7 .left)))
 
 pub binary-checks-spec : {M : Type 1} → statement M
 binary-checks-spec =

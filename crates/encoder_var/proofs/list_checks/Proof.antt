@@ -35,16 +35,16 @@ past1 : (c : tie.Else1) → FirstHold 1 (checks (c .before .before))
 past1 c = let w = c .before .well-formed in rw (← w .ensures, not-false (w .result) (c .if1 .left))
 
 returns-2 : tie.Need-returns-2
-returns-2 c = sym (past1 (c .before) ∙ rw (lt-leb _ _ (c .if2 .taken)))
+returns-2 c = sym (past1 (c .before) ∙ rw (lt-leb 1 _ (c .if2 .taken)))
 
 past2 : (c : tie.Else2) → let s = c .before .before .before in status-of (checks s) ≡ status-of (check (leb (length (values s)) 64) 4 ∷ drop 2 (checks s))
-past2 c = past1 (c .before) ∙ rw (le-leb _ _ (c .if2 .left))
+past2 c = past1 (c .before) ∙ rw (le-leb 1 _ (c .if2 .left))
 
 returns-3 : tie.Need-returns-3
-returns-3 c = sym (past2 (c .before) ∙ rw (lt-leb _ _ (c .if3 .taken)))
+returns-3 c = sym (past2 (c .before) ∙ rw (lt-leb _ 64 (c .if3 .taken)))
 
 past3 : (c : tie.Else3) → FirstHold 2 (checks (c .before .before .before .before))
-past3 c = past2 (c .before) ∙ rw (le-leb _ _ (c .if3 .left))
+past3 c = past2 (c .before) ∙ rw (le-leb _ 64 (c .if3 .left))
 
 all-in-range-requires : tie.Need-all-in-range-requires
 all-in-range-requires c κs = search needs
@@ -100,10 +100,10 @@ past6 : (c : tie.Else6) → FirstHold 5 (checks (c .before .before .before .befo
 past6 c = let t = c .before in past5 (t .before .before .before) ∙ rw (code-tested t ∙ not-false _ (c .if6 .left))
 
 returns-7 : tie.Need-returns-7
-returns-7 c = sym (past6 (c .before .before) ∙ rw (le-ltb _ _ (c .if7 .taken)))
+returns-7 c = sym (past6 (c .before .before) ∙ rw (le-ltb _ 32 (c .if7 .taken)))
 
 returns-8 : tie.Need-returns-8
-returns-8 c = sym (past6 (c .before .before) ∙ rw (lt-ltb _ _ (c .if7 .left)))
+returns-8 c = sym (past6 (c .before .before) ∙ rw (lt-ltb _ 32 (c .if7 .left)))
 
 pub list-checks-spec : {M : Type 1} → statement M
 list-checks-spec =

@@ -39,10 +39,10 @@ past2 : (c : tie.Else2) → FirstHold 2 (checks (c .before .before .before .befo
 past2 c = let b = c .before in past1 (b .before) ∙ rw (bounds b ∙ not-false _ (c .if2 .left))
 
 returns-3 : tie.Need-returns-3
-returns-3 c = sym (past2 (c .before .before) ∙ rw (le-ltb _ _ (c .if3 .taken)))
+returns-3 c = sym (past2 (c .before .before) ∙ rw (le-ltb _ 32 (c .if3 .taken)))
 
 returns-4 : tie.Need-returns-4
-returns-4 c = sym (past2 (c .before .before) ∙ rw (lt-ltb _ _ (c .if3 .left)))
+returns-4 c = sym (past2 (c .before .before) ∙ rw (lt-ltb _ 32 (c .if3 .left)))
 
 pub range-checks-spec : {M : Type 1} → statement M
 range-checks-spec = tie.close (tie.spec well-formed-requires returns bounds-hold-requires returns-2 returns-3 returns-4)
