@@ -44,21 +44,21 @@ use Rattle.sat.specs.Encoded.{EncodedRule}
 use Rattle.sat.specs.Lit.{neg}
 use Rattle.norm_csp.specs.Domain.{binary, list, range}
 use Rattle.norm_csp.specs.Rules.{LinearTerm, eq, ge, ne}
-use Rattle.log_var.specs.EncodeVarLog.{EncodedVar, encode-var-log}
-use Rattle.log_var.specs.LogEncoding.{LogEncoding, no-encoding}
-use Rattle.mixed.specs.Enumerate.{bounded, enumerate}
-use Rattle.log_adder.specs.Adder2.{eq-column}
-use Rattle.log_adder.specs.Column.{column}
-use Rattle.log_linear.specs.EncodeLinearLog.{encode-linear-log}
-use Rattle.log_mul.specs.EncodeMulLog.{encode-mul-log}
+use Rattle.log_encoding.specs.EncodeVarLog.{EncodedVar, encode-var-log}
+use Rattle.log_encoding.specs.LogEncoding.{LogEncoding, no-encoding}
+use Rattle.log_encoding.specs.Enumerate.{bounded, enumerate}
+use Rattle.log_encoding.specs.Adder2.{eq-column}
+use Rattle.log_encoding.specs.Column.{column}
+use Rattle.log_encoding.specs.EncodeLinearLog.{encode-linear-log}
+use Rattle.log_encoding.specs.EncodeMulLog.{encode-mul-log}
 use mathlib.Core.Bool.{cond}
 use lib.Dec.{ltb}
 use Rattle.arithmetic.specs.Integers.{down, up}
-use Rattle.log_adder.specs.Size.{Reached, height}
-use Rattle.log_var.specs.Size.{setting-shape}
-use Rattle.log_linear.specs.EncodeLinearLog.{offset-constant}
-use Rattle.log_linear.specs.Size.{linear-reached, term-shapes}
-use Rattle.log_mul.specs.Size.{mul-reached}
+use Rattle.log_encoding.specs.AdderSize.{Reached, height}
+use Rattle.log_encoding.specs.VarSize.{setting-shape}
+use Rattle.log_encoding.specs.EncodeLinearLog.{offset-constant}
+use Rattle.log_encoding.specs.LinearSize.{linear-reached, term-shapes}
+use Rattle.log_encoding.specs.MulSize.{mul-reached}
 
 -- heights up to the first above 12
 abbrev tested : List Reached → List ℕ
@@ -197,7 +197,7 @@ def write_crate(scratch, made):
     shutil.rmtree(scratch, ignore_errors=True)
     shutil.copytree(HERE.parent / "crates", scratch / "crates")
     names = [line for line in (HERE.parent / "crates.txt").read_text().splitlines() if line]
-    deps = "arithmetic sat norm_csp mixed log_var log_adder log_linear log_mul"
+    deps = "arithmetic sat norm_csp log_encoding"
     (scratch / "crates.txt").write_text("\n".join(names + [f"compared: {deps}"]) + "\n")
     crate = scratch / "crates" / "compared"
     for folder in ("src", "proofs"):
