@@ -1,6 +1,6 @@
 // Signed numbers at the border of the encoder: a setting's offset, codes and values, and bit lengths. Inside, numbers are unsigned.
 ghost use mathlib.Core.Path.{_≡_};
-ghost use Prim.Native.Nat.{_<_};
+ghost use Prim.Native.Nat.{_+_, _<_};
 ghost use lib.Signed.{_≤ℤ_};
 ghost use Rattle.arithmetic.specs.Bits.{bit-length};
 ghost use Rattle.arithmetic.specs.Integers.{up, down};
@@ -46,4 +46,37 @@ pub fn value(offset: i32, k: u32) -> i32
     ensures { λ r. ⌜ r ≡ value offset k ⌝ }
 {
     (k as i32) + offset
+}
+
+// The part of a number above 0.
+pub fn up(z: i32) -> u32
+    requires { ⌜ up z < 1073741824 ⌝ }
+    ensures { λ r. ⌜ r ≡ up z ⌝ }
+{
+    if z < 0 {
+        return 0;
+    }
+    code(0, z)
+}
+
+// The part of a number below 0.
+pub fn down(z: i32) -> u32
+    requires { ⌜ down z < 1073741824 ⌝ }
+    ensures { λ r. ⌜ r ≡ down z ⌝ }
+{
+    if z < 0 {
+        return code(z, 0);
+    }
+    0
+}
+
+// How far a number is from 0.
+pub fn magnitude(z: i32) -> u32
+    requires { ⌜ (up z < 1073741824) × (down z < 1073741824) ⌝ }
+    ensures { λ r. ⌜ r ≡ up z + down z ⌝ }
+{
+    if z < 0 {
+        return down(z);
+    }
+    up(z)
 }

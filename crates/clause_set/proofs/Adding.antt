@@ -1,5 +1,5 @@
 -- What adding clauses leaves in the stores: one list after another; a loop that adds.
-use mathlib.Core.Path.{_≡_, refl, ap, sym, _∙_}
+use mathlib.Core.Path.{_≡_, refl, ap, subst, sym, _∙_}
 use mathlib.Core.List.{List, [], _∷_, _++_, map, map-append}
 use Prim.Native.Nat.{ℕ, suc, _+_, _≤_, _<_}
 use native.Mathlib.Nat.{add-zero}
@@ -70,6 +70,15 @@ pub record Going (b : ℕ) (d₀ e₀ : List ℕ) (a₀ : Counts) (all : List (L
 
 pub going-start : {b : ℕ} {d e : List ℕ} {a : Counts} (cs : List (List ℕ)) → Fits b a cs → Going b d e a cs d e a cs
 going-start cs f = record { same = refl; fits = f; lits-long = refl; ends-long = refl }
+
+-- what is left at the start, in a loop's own terms
+pub going-restart : {b : ℕ} {d e : List ℕ} {a : Counts} {all rest : List (List ℕ)} → all ≡ rest → Fits b a all → Going b d e a all d e a rest
+going-restart {b} {d} {e} {a} {all} p f = subst (Going b d e a all d e a) p (going-start all f)
+
+-- nothing is left
+pub going-end : {b : ℕ} {d₀ e₀ d e : List ℕ} {a₀ a : Counts} {all rest : List (List ℕ)} → Going b d₀ e₀ a₀ all d e a rest → rest ≡ []
+    → after d e a ≡ add-clauses b all (after d₀ e₀ a₀)
+going-end {b} {d = d} {e = e} {a = a} g p = sym (g .same ∙ ap (λ cs. add-clauses b cs (after d e a)) p)
 
 module _ {b : ℕ} {d₀ e₀ d e : List ℕ} {a₀ a : Counts} {all now : List (List ℕ)} (cs rest : List (List ℕ)) (split : now ≡ cs ++ rest) (g : Going b d₀ e₀ a₀ all d e a now) where
   pub going-fits : Fits b a cs

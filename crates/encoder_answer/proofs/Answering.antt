@@ -31,7 +31,7 @@ counted clauses at d e w = (
 )
 
 -- A call that adds, on stores of these lengths: its checks but those of space, its clauses and the job after it.
-pub record Call (env : EncoderEnv) (lits ends : ℕ) : Type 0 where
+pub record AddingCall (env : EncoderEnv) (lits ends : ℕ) : Type 0 where
   pub checks : List Check
   pub numbered : Numbered checks
   pub holds : status-of checks ≡ 0 → Kept env lits ends
@@ -40,10 +40,10 @@ pub record Call (env : EncoderEnv) (lits ends : ℕ) : Type 0 where
 
 -- The number of all checks -------------------------------------------------------------------------------------------
 
-abbrev pub call-status : {env : EncoderEnv} {lits ends : ℕ} → Call env lits ends → ℕ
+abbrev pub call-status : {env : EncoderEnv} {lits ends : ℕ} → AddingCall env lits ends → ℕ
 call-status {env} {lits} {ends} d = adding-status (d .checks) env lits ends (d .job .variables) (d .clauses)
 
-module _ {env : EncoderEnv} {lits ends : ℕ} (d : Call env lits ends) {r : ℕ} where
+module _ {env : EncoderEnv} {lits ends : ℕ} (d : AddingCall env lits ends) {r : ℕ} where
   pub all-passed : r ≡ call-status d → r ≡ 0 → status-of (d .checks) ≡ 0
   all-passed s z = both-lists (d .checks) (space-for env lits ends (d .job .variables) (d .clauses)) (d .numbered) (sym s ∙ z) .0
 
@@ -59,7 +59,7 @@ module _ {env : EncoderEnv} {lits ends : ℕ} (d : Call env lits ends) {r : ℕ}
 
 -- The answer ---------------------------------------------------------------------------------------------------------
 
-module _ {env : EncoderEnv} (lits ends : List ℕ) (d : Call env (length lits) (length ends)) {r : ℕ} (s : r ≡ call-status d) where
+module _ {env : EncoderEnv} (lits ends : List ℕ) (d : AddingCall env (length lits) (length ends)) {r : ℕ} (s : r ≡ call-status d) where
   abbrev outcome : Outcome
   outcome = adding (d .checks) env lits ends (d .clauses) (d .job)
 
@@ -99,7 +99,7 @@ rule-sized out at d e r w =
     record { vars-are = ap (λ (o : RuleOutcome). o .vars) w; lits-are = n .0; clauses-are = n .1 }
 
 -- the call's rule was written
-module _ {env : EncoderEnv} (lits ends : List ℕ) (d : Call env (length lits) (length ends)) (g : d .job ≡ grown env (d .job .variables) (d .clauses))
+module _ {env : EncoderEnv} (lits ends : List ℕ) (d : AddingCall env (length lits) (length ends)) (g : d .job ≡ grown env (d .job .variables) (d .clauses))
     {r : ℕ} (s : r ≡ call-status d) (z : r ≡ 0) {at : Counts} (k : at ≡ counts-of env) {lits₁ ends₁ : List ℕ} {new : RuleCounts}
     (w : rule-outcome lits₁ ends₁ new ≡ add-rule (record { clauses = d .clauses; vars = d .job .variables }) (after lits ends at)) where
   -- what `rule_accepted` asks

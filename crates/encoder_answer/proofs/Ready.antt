@@ -7,7 +7,7 @@ use lib.Dec.{eqb, ltb}
 use lib.IntN.{pos}
 use borrow.Author.Tests.{eqb-true, ltb-true}
 use Rattle.arithmetic.specs.Integers.{down, up}
-use Rattle.log_sum.specs.Settings.{SettingReady}
+use Rattle.log_var.specs.Settings.{SettingReady}
 use Rattle.log_var.specs.declared.LogEncoding.{LogEncoding}
 use Rattle.encoder_env.specs.declared.EncoderEnv.{EncoderEnv}
 use Rattle.encoder_env.specs.WellFormed.{encoding-at, encoding-holds, eqz, is-spare, lits-fit, record-holds}

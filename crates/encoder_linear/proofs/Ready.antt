@@ -5,7 +5,7 @@ use Prim.Native.Nat.{_<_, ℕ}
 use native.Mathlib.Omega.{arith}
 use lib.IntN.{ℤ}
 use Rattle.clause_set.specs.declared.Counts.{Counts}
-use Rattle.log_sum.specs.Settings.{TermsReady}
+use Rattle.log_sum.specs.Terms.{TermsReady}
 use Rattle.encoder_env.specs.declared.EncoderEnv.{EncoderEnv}
 use Rattle.encoder_env.specs.WellFormed.{lits-fit}
 use Rattle.encoder_env.proofs.Kept.{all-at}
@@ -14,7 +14,7 @@ use Rattle.encoder_answer.specs.Adding.{counts-of, grown}
 use Rattle.encoder_answer.specs.Outcome.{status-of}
 use Rattle.encoder_linear.specs.Sums.{coef-at, coef-fits, linear-checks, setting-at, setting-known, sum-encoded, term-count}
 use Rattle.encoder_linear.proofs.Added.{ArgumentsKnown, coef-small, numbered, setting-below, sum-known}
-use Rattle.encoder_answer.proofs.Answering.{Call}
+use Rattle.encoder_answer.proofs.Answering.{AddingCall}
 use Rattle.encoder_answer.proofs.Ready.{setting-ready}
 
 -- what the checks settle for the leaf functions
@@ -48,7 +48,7 @@ sum-ready env lits ends op constant terms h e =
       heights = s .heights;
     })
 
-abbrev pub sum-call : (env : EncoderEnv) (lits ends op : ℕ) (constant : ℤ) (terms : List ℤ) → Call env lits ends
+abbrev pub sum-call : (env : EncoderEnv) (lits ends op : ℕ) (constant : ℤ) (terms : List ℤ) → AddingCall env lits ends
 sum-call env lits ends op constant terms =
     let out = sum-encoded env op constant terms in
     record {

@@ -7,7 +7,7 @@ use mathlib.Core.Path.{_≡_}
 use Rattle.arithmetic.specs.Integers.{down, up}
 use Rattle.clause_set.specs.declared.Counts.{Counts}
 use Rattle.log_encoding.specs.AdderSize.{too-tall}
-use Rattle.log_sum.specs.Settings.{TermsReady}
+use Rattle.log_sum.specs.Terms.{TermsReady}
 use Rattle.encoder_env.specs.declared.EncoderEnv.{EncoderEnv}
 use Rattle.encoder_linear.specs.Sums.{sum-reached}
 

@@ -11,7 +11,7 @@ use Rattle.encoder_mul.specs.Products.{mul-checks, product-encoded}
 use Rattle.encoder_answer.specs.Adding.{counts-of, grown}
 use Rattle.encoder_answer.specs.Outcome.{status-of}
 use Rattle.encoder_mul.proofs.Added.{numbered, product-known}
-use Rattle.encoder_answer.proofs.Answering.{Call}
+use Rattle.encoder_answer.proofs.Answering.{AddingCall}
 use Rattle.encoder_answer.proofs.Ready.{setting-ready}
 
 pub settings-ready : (env : EncoderEnv) (lits ends x y m : ℕ) → Kept env lits ends → x < env .count → y < env .count → m < env .count
@@ -38,7 +38,7 @@ mul-ready env lits ends x y m h e =
       heights = p .heights;
     })
 
-abbrev pub mul-call : (env : EncoderEnv) (lits ends x y m : ℕ) → Call env lits ends
+abbrev pub mul-call : (env : EncoderEnv) (lits ends x y m : ℕ) → AddingCall env lits ends
 mul-call env lits ends x y m =
     let out = product-encoded env x y m in
     record {

@@ -17,7 +17,7 @@ use Rattle.norm_csp.proofs.NormCsp.{KnownVar}
 use Rattle.norm_csp.specs.Domain.{IntVarRepresentation, RisingFrom, binary, last-from, list, range}
 use Rattle.log_var.specs.Calls.{Ready, VarAdded, lowest}
 use Rattle.log_encoding.specs.EncodeVarLog.{Encodable, encode-var-log}
-use Rattle.log_var.proofs.Bounds.{rising-last}
+use Rattle.norm_csp.proofs.Domain.{rising-last}
 use Rattle.log_var.proofs.Calls.{last-at}
 use Rattle.log_var.specs.declared.EncodedVar.{EncodedVar}
 use Rattle.encoder_env.specs.declared.EncoderEnv.{EncoderEnv}
@@ -29,7 +29,7 @@ use Rattle.encoder_var.specs.Settings.{all-in-range, rising, setting-che
 use Rattle.encoder_answer.specs.Adding.{counts-of}
 use Rattle.encoder_answer.specs.Outcome.{Answers, status-of}
 use Rattle.encoder_var.specs.Sizes.{SizeOf, job-after}
-use Rattle.encoder_answer.proofs.Answering.{Call, all-passed, call-accepted, counted, counts-fit}
+use Rattle.encoder_answer.proofs.Answering.{AddingCall, all-passed, call-accepted, counted, counts-fit}
 use Rattle.encoder_answer.proofs.Statuses.{Numbered, numbered-both, passed}
 
 -- the counts after a setting that was added
@@ -148,7 +148,7 @@ numbered env lits ends repr = (lit< tt, numbered-both (var-checks (env .switches
 
 -- The call -----------------------------------------------------------------------------------------------------------
 
-abbrev pub setting-call : (env : EncoderEnv) (lits ends : ℕ) (repr : IntVarRepresentation) → Call env lits ends
+abbrev pub setting-call : (env : EncoderEnv) (lits ends : ℕ) (repr : IntVarRepresentation) → AddingCall env lits ends
 setting-call env lits ends repr =
     let out = encode-var-log repr (env .variables) in
     record {
@@ -167,7 +167,7 @@ setting-ready env lits ends repr h k = rw k (admitted env lits ends repr h .read
 module _ (env : EncoderEnv) (lits ends : List ℕ) (repr : IntVarRepresentation) {r : ℕ} (s : r ≡ setting-status env (length lits) (length ends) repr) (z : r ≡ 0)
     {at : Counts} (k : at ≡ counts-of env) {lits₁ ends₁ : List ℕ} {new : EncodedVar}
     (w : VarAdded repr (env .variables) (after lits ends at) new (after lits₁ ends₁ (new .used))) where
-  abbrev call : Call env (length lits) (length ends)
+  abbrev call : AddingCall env (length lits) (length ends)
   call = setting-call env (length lits) (length ends) repr
 
   -- what `accepted` asks

@@ -16,7 +16,7 @@ use borrow.Author.Tests.{lt-ltb, le-ltb, ltb-true, lt-leb, le-leb, leb-true, eq-
 use Rattle.lines.specs.Integers.{is-digit}
 use Rattle.lines.proofs.Signs.{as-i64, negated, negated-fits}
 use Rattle.lines.specs.Numerals.{numeral-more, numeral-integer, with-digit, with-other}
-use Rattle.lines.specs.Lines.{Feeding, Lined, Numbered, Within, is-empty, keep, line-from, line-more, line-whole, lined, none-kept, number-more, number-whole, numbered, one-line, part, same-below, spoiled, stored, with-numbers, word-more}
+use Rattle.lines.specs.Lines.{Feeding, Lined, Numbered, Within, is-empty, keep, line-from, line-more, line-whole, lined, none-kept, number-more, number-whole, numbered, one-line, between, same-below, spoiled, stored, with-numbers, word-more}
 use Rattle.lines.specs.declared.Line.{Line}
 use Rattle.lines.specs.declared.Numbers.{Numbers}
 use Rattle.lines.specs.declared.Word.{Word}
@@ -192,11 +192,11 @@ empty-word l e = rw e
 
 -- Bytes of a line ------------------------------------------------------------------------------------------------------
 
-part-none : (s : List ℕ) (a : ℕ) → part s a a ≡ []
-part-none s a = let e : a - a ≡ 0 = omega arith in rw e
+between-none : (s : List ℕ) (a : ℕ) → between s a a ≡ []
+between-none s a = let e : a - a ≡ 0 = omega arith in rw e
 
-part-last : (s : List ℕ) (a i : ℕ) → a ≤ i → i < length s → part s a (i + 1) ≡ part s a i ++ (getD s i 0 ∷ [])
-part-last s a i h k =
+between-last : (s : List ℕ) (a i : ℕ) → a ≤ i → i < length s → between s a (i + 1) ≡ between s a i ++ (getD s i 0 ∷ [])
+between-last s a i h k =
     let e : i + 1 - a ≡ suc (i - a) = omega arith in
     let f : a + (i - a) ≡ i = omega arith in
     let l : i - a < length (drop a s) = rw length-drop (omega arith) in
@@ -215,15 +215,15 @@ one-last (a ∷ bs) b p h =
 
 pub feeding-none : (s : List ℕ) (a : ℕ) (k : Lined) → a ≤ length s → Feeding s a a k k
 unfolding line-from one-line
-feeding-none s a k h = record { from = omega arith; within = h; one = rw (part-none s a); is = rw (part-none s a) }
+feeding-none s a k h = record { from = omega arith; within = h; one = rw (between-none s a); is = rw (between-none s a) }
 
 pub feeding-more : {s : List ℕ} {a i : ℕ} {k m m′ : Lined} → Feeding s a i k m → i < length s → (getD s i 0 ≡ 10 → ⊥)
     → m′ ≡ line-more m (getD s i 0) → Feeding s a (i + 1) k m′
 feeding-more {s} {a} {i} {k} f h d e =
-    let p = part-last s a i (f .from) h in
+    let p = between-last s a i (f .from) h in
     record {
       from = omega (arith, f .from);
       within = omega arith;
-      one = rw p (one-last (part s a i) (getD s i 0) (f .one) d);
-      is = rw (p, from-last k (part s a i) (getD s i 0), ← f .is) e;
+      one = rw p (one-last (between s a i) (getD s i 0) (f .one) d);
+      is = rw (p, from-last k (between s a i) (getD s i 0), ← f .is) e;
     }

@@ -117,15 +117,15 @@ one-line [] = true
 one-line (b ∷ bs) = not (eqb b 10) && one-line bs
 
 -- the bytes of s from a up to e
-abbrev pub part : List ℕ → ℕ → ℕ → List ℕ
-part s a e = take (e - a) (drop a s)
+abbrev pub between : List ℕ → ℕ → ℕ → List ℕ
+between s a e = take (e - a) (drop a s)
 
 -- the bytes of s from a up to e have no line feed, and the line with them behind it is `after`
 pub record Feeding (s : List ℕ) (a e : ℕ) (before after : Lined) : Type 0 where
   pub from : a ≤ e
   pub within : e ≤ length s
-  pub one : one-line (part s a e) ≡ true
-  pub is : after ≡ line-from before (part s a e)
+  pub one : one-line (between s a e) ≡ true
+  pub is : after ≡ line-from before (between s a e)
 
 -- and a line feed stands at e, unless s ends there; what follows is from n on
 pub record FedBy (s : List ℕ) (a e n : ℕ) (before after : Lined) : Type 0 where

@@ -172,10 +172,10 @@ module _ (counts : List ℕ) (g : EqInput) (a : Counts) (few : g .width ≤ 26) 
       }
 
   pub ordering-dead : i < g .width - 1 → column-answer (getD counts i 0 + s .carry .count) ((s .x + s .y) % 2) (s .vars) ≡ carry-of Dead
-      → CarriesOrdered d₀ e₀ counts g a d e (record { vars = s .vars; used = s .used; carry = Dead })
-  ordering-dead h p =
+      → (r : EqCarries) → r ≡ record { vars = s .vars; used = s .used; carry = Dead } → CarriesOrdered d₀ e₀ counts g a d e r
+  ordering-dead h p r e =
       let o = dead-is (getD counts i 0 + s .carry .count) ((s .x + s .y) % 2) (s .vars) p in
-      ordered Dead (carries-dead counts (g .width - 1 - i) i (s .x) (s .y) (s .carry) (s .vars) (omega arith) o)
+      rw e (ordered Dead (carries-dead counts (g .width - 1 - i) i (s .x) (s .y) (s .carry) (s .vars) (omega arith) o))
 
   pub ordering-end : g .width - 1 ≤ i → (r : EqCarries) → r ≡ record { vars = s .vars; used = s .used; carry = Carry (s .carry .first) (s .carry .count) }
       → CarriesOrdered d₀ e₀ counts g a d e r

@@ -12,7 +12,7 @@ ghost use Rattle.log_encoding.specs.Adder2.{column-answer, eq-column, ordering,
 ghost use Rattle.log_adder.specs.ColumnInfo.{ColumnSized, range-lits};
 ghost use Rattle.log_encoding.specs.AdderSize.{eq-reached, greatest-height, too-tall};
 ghost use Rattle.log_adder2.specs.EqState.{CarriesOrdered, EqAdded, EqColumnReady, EqFits, Wrote, carries, carry-of, columns-clauses, eq-carry-count, eq-column-clauses, eq-output, is-dead, next-state, no-vars, target-bit};
-ghost use Rattle.log_adder2.specs.declared.Column.the-variants.{Carry};
+ghost use Rattle.log_adder2.specs.declared.Column.the-variants.{Carry, Dead};
 use clause_set::Clause;
 use clause_set::Counts;
 use log_adder::ColumnInfo;
@@ -176,6 +176,18 @@ fn carried(s: EqState) -> EqCarries
     }
 }
 
+// What it answers at a dead end.
+fn dead_end(s: EqState) -> EqCarries
+    ensures { λ r. ⌜ r ≡ record { vars = s .vars; used = s .used; carry = Dead } ⌝ }
+{
+    let used = s.used;
+    EqCarries {
+        vars: s.vars,
+        used,
+        carry: Column::Dead,
+    }
+}
+
 // The first pass: the ordering clauses of the carries, up to a dead end.
 pub fn order_carries(
     lits: &mut [u32],
@@ -206,12 +218,7 @@ pub fn order_carries(
         let height = counts[i] + carry.count;
         let odd = (s.x + s.y) % 2;
         let Column::Carry(first, n) = next_carry(height, odd, s.vars) else {
-            let used = s.used;
-            return EqCarries {
-                vars: s.vars,
-                used,
-                carry: Column::Dead,
-            };
+            return dead_end(s);
         };
         s = order_next(lits, ends, s, first, n);
         i += 1;

@@ -29,8 +29,8 @@ use Rattle.log_encoding.specs.LinearSize.{gather-counts, linear-reached, shape-
 use Rattle.log_linear.specs.declared.RuleCounts.{RuleCounts}
 use Rattle.log_encoding.proofs.LinearSize.{gather-counts-are, negated-bits-are}
 use Rattle.log_terms.specs.Gathered.{Gathered}
-use Rattle.log_sum.proofs.Columns.{counts-are, eq-output-is}
-use Rattle.log_sum.proofs.Compared.{both-fit}
+use Rattle.log_weighted.proofs.Columns.{counts-are, eq-output-is}
+use Rattle.log_weighted.proofs.Compared.{both-fit}
 use Rattle.log_mul.specs.Added.{MultiplierAdded}
 use Rattle.log_encoding.specs.EncodeMulLog.{encode-mul, mul-constant, offset-terms, product-with-offsets}
 use Rattle.log_encoding.specs.Multiply.{multiplier, product}

@@ -18,7 +18,7 @@ use Rattle.log_gather.proofs.Steps.{shl-more}
 use Rattle.log_terms.specs.Terms.{TermFits, TermsFit, no-term}
 use Rattle.log_terms.specs.declared.Weighted.{Weighted as WeightedLits}
 use Rattle.log_var.specs.declared.LogEncoding.{LogEncoding as Encoding}
-use Rattle.log_sum.specs.Settings.{SettingReady}
+use Rattle.log_var.specs.Settings.{SettingReady}
 use Rattle.log_sum.proofs.Offsets.{added-small, small-fits}
 use Rattle.log_encoding.specs.EncodeMulLog.{is-zero}
 

@@ -17,7 +17,7 @@ use Rattle.log_encoding.specs.Linear.{Weighted, gather, negated-constant}
 use Rattle.log_linear.specs.declared.Bits.{Bits}
 use Rattle.log_encoding.specs.MulSize.{multiplier-reached}
 use Rattle.log_var.specs.Record.{record-at}
-use Rattle.log_sum.specs.Settings.{SettingReady}
+use Rattle.log_var.specs.Settings.{SettingReady}
 
 -- literals of a setting in 32 places
 pub record BitsReady (ls : List ℕ) (b : Bits) : Type 0 where

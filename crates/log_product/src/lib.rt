@@ -18,11 +18,12 @@ ghost use Rattle.log_linear.specs.Added.{add-rule, bits-of, rule-outcome};
 ghost use Rattle.log_encoding.specs.EncodeLinearLog.{weighted};
 ghost use Rattle.log_encoding.specs.Linear.{gather};
 ghost use Rattle.log_terms.specs.Terms.{TermFits, TermsFit, weighted-all, weighted-of};
-ghost use Rattle.log_sum.specs.Settings.{SettingReady, shape-map-of};
+ghost use Rattle.log_var.specs.Settings.{SettingReady, shape-map-of};
 ghost use Rattle.log_encoding.specs.EncodeMulLog.{encode-mul, encode-mul-log, is-zero, offset-terms, product-with-offsets};
 ghost use Rattle.log_encoding.specs.Multiply.{multiplier};
 ghost use Rattle.log_encoding.specs.MulSize.{mul-reached, offsets-reached};
 ghost use Rattle.log_product.specs.Ready.{BitsReady, ColumnsReady, EqInputReady, FactorsReady, ProductReady, ProductsReady, multiply-then};
+use arithmetic::magnitude;
 use clause_set::Counts;
 use log_adder::higher;
 use log_adder2::EqInput;
@@ -34,16 +35,15 @@ use log_mul::encode_product;
 use log_mul::log_encoding_multiplier;
 use log_mul::multiplier_height;
 use log_mul::product_bits;
-use log_sum::eq_constants;
-use log_sum::eq_target;
-use log_sum::excess;
-use log_sum::magnitude;
 use log_sum::term_lits;
-use log_sum::weighted_height;
 use log_terms::Weighted;
 use log_terms::gather;
 use log_terms::width_of;
 use log_var::LogEncoding;
+use log_weighted::eq_constants;
+use log_weighted::eq_target;
+use log_weighted::excess;
+use log_weighted::weighted_height;
 use sat::Lit;
 
 // A setting's literals, the lowest first.
@@ -104,8 +104,8 @@ fn eq_input(ts: [Weighted; 7], constant: i32, vars: u32) -> EqInput
     ensures { λ r. ⌜ EqInputReady (weighted-all ts 4) (up constant) (down constant) vars r ⌝ }
 {
     let width = width_of(ts, 4, 12);
-    let a = log_sum::up(constant);
-    let target = eq_target(ts, 4, log_sum::down(constant));
+    let a = arithmetic::up(constant);
+    let target = eq_target(ts, 4, arithmetic::down(constant));
     EqInput {
         width,
         x: excess(a, target),

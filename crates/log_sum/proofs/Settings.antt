@@ -22,7 +22,7 @@ use Rattle.log_encoding.specs.EncodeLinearLog.{encode-linear-log, encode-weight
 use Rattle.log_encoding.specs.Linear.{Weighted}
 use Rattle.log_encoding.specs.LinearSize.{linear-log-reached, linear-reached, shape-of}
 use Rattle.log_encoding.proofs.LinearSize.{term-shapes-are}
-use Rattle.log_sum.specs.Settings.{shape-map-of}
+use Rattle.log_var.specs.Settings.{shape-map-of}
 use Rattle.log_var.specs.Record.{int-map-of}
 use Rattle.log_terms.specs.Terms.{TermFits, TermsFit, no-term, shapes-all, weighted-all, weighted-of}
 use Rattle.log_terms.specs.declared.Weighted.{Weighted as WeightedLits}

@@ -15,7 +15,7 @@ use Rattle.sat.specs.Fresh.{fresh}
 use Rattle.sat.specs.Lit.{neg}
 use Rattle.clause_set.specs.declared.Counts.{Counts}
 use Rattle.clause_set.specs.Stores.{Fits, Stores, add-clauses, after}
-use Rattle.clause_set.proofs.Adding.{Going, going-fits, going-turn}
+use Rattle.clause_set.proofs.Adding.{Going, going-end, going-fits, going-restart, going-turn}
 use Rattle.log_encoding.specs.Binary.{binary-bit, binary-bits}
 use Rattle.log_var.specs.Parts.{BitAdded, BitsAdded}
 use Rattle.log_encoding.specs.Domain.{against}
@@ -23,7 +23,6 @@ use Rattle.log_var.specs.Record.{pad}
 use Rattle.sat.specs.LitArray.{lit}
 use Rattle.log_var.specs.declared.EncodedBit.{EncodedBit}
 use Rattle.log_var.specs.declared.EncodedBits.{EncodedBits as Bits}
-use Rattle.log_var.proofs.Steps.{going-end, going-restart}
 
 drop-replicate : {A : Type 0} (n m : ℕ) (x : A) → drop m (replicate n x) ≡ replicate (n - m) x
 drop-replicate n zero x = let e : n ≡ n - 0 = omega arith in ap (λ k. replicate k x) e

@@ -18,7 +18,8 @@ use Rattle.sat.specs.Size.{entries}
 use Rattle.sat.proofs.Fresh.{length-fresh}
 use Rattle.clause_set.specs.declared.Counts.{Counts}
 use Rattle.clause_set.specs.Stores.{Fits}
-use Rattle.norm_csp.specs.Domain.{IntVarRepresentation, RisingFrom, binary, last-from, list, range}
+use Rattle.norm_csp.specs.Domain.{IntVarRepresentation, binary, last-from, list, range}
+use Rattle.norm_csp.proofs.Domain.{rising-last}
 use Rattle.log_var.specs.Calls.{Ready, lowest}
 use Rattle.log_encoding.specs.LogEncoding.{LogEncoding}
 use Rattle.log_var.specs.Parts.{CodesFit}
@@ -49,11 +50,6 @@ codes-fit low high h k d =
       high-code = k;
       bits = bit-length-least (code o high) 12 k;
     }
-
--- the last of rising values
-pub rising-last : (k : ℤ) (ks : List ℤ) → RisingFrom k ks → k ≤ℤ last-from k ks
-rising-last k [] r = order-read k k .1 (omega arith)
-rising-last k (m ∷ ms) r = ≤ℤ-trans k m (last-from m ms) (<ℤ-le k m (r .0)) (rising-last m ms (r .1))
 
 -- Counts -------------------------------------------------------------------------------------------------------------
 

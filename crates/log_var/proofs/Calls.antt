@@ -9,6 +9,7 @@ use mir.Syntax.{w32}
 use mir.Val.{ofZ, toZ}
 use mir.ValLaws.{toZ-ofZ}
 use native.Mathlib.Omega.{arith}
+use Rattle.norm_csp.proofs.Domain.{rising-last}
 use Rattle.arithmetic.specs.Bits.{bit-length}
 use Rattle.arithmetic.specs.Integers.{down, up}
 use Rattle.arithmetic.specs.Offset.{code, offset-of}
@@ -23,7 +24,8 @@ use Rattle.clause_set.proofs.Adding.{add-append, fits-then}
 use Rattle.norm_csp.specs.Domain.{binary, last-from, list, range}
 use Rattle.log_encoding.specs.Binary.{binary-bits}
 use Rattle.log_var.specs.Calls.{Ready, VarAdded}
-use Rattle.log_var.specs.Parts.{BitsAdded, CodesFit, RisingAt, bound, code-range, gaps-from}
+use Rattle.log_domain.specs.Domain.{RisingAt, bound, gaps-from}
+use Rattle.log_var.specs.Parts.{BitsAdded, CodesFit, code-range}
 use Rattle.log_encoding.specs.Domain.{at-least, at-most, gaps}
 use Rattle.log_encoding.specs.EncodeVarLog.{encode-var-log}
 use Rattle.log_encoding.specs.LogEncoding.{LogEncoding}
@@ -33,7 +35,7 @@ use Rattle.log_var.specs.declared.EncodedBits.{EncodedBits}
 use Rattle.log_var.specs.declared.EncodedVar.{EncodedVar}
 use Rattle.log_var.specs.declared.LogEncoding.{LogEncoding as Encoding}
 use Rattle.log_var.proofs.Bits.{bits-long}
-use Rattle.log_var.proofs.Bounds.{codes-fit, ready-fits, rising-last}
+use Rattle.log_var.proofs.Bounds.{codes-fit, ready-fits}
 
 -- a small signed number, as the machine reads it
 pub small-read : (z : ℤ) → up z < 4096 → down z < 4096 → toZ w32 (ofZ w32 z) ≡ z

@@ -1,3 +1,4 @@
 pub mod Record
+pub mod Settings
 pub mod Calls
 pub mod Parts

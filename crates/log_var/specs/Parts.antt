@@ -1,19 +1,14 @@
--- What the parts of these functions ask and answer: the codes of the bounds, the clauses of a bound and of the gaps, the bits of two values.
-use Prim.Native.Nat.{_+_, _<_, _≤_, ℕ}
-use lib.IntN.{pos, ℤ}
-use lib.ListN.{drop, getD, length}
+-- What the parts of these functions ask and answer: the codes of the bounds, the bits of two values.
+use Prim.Native.Nat.{_<_, _≤_, ℕ}
+use lib.IntN.{ℤ}
 use lib.Signed.{_≤ℤ_}
-use mathlib.Core.Bool.{Bool, cond}
-use mathlib.Core.List.{List, [], _∷_, map}
+use mathlib.Core.List.{[], _∷_}
 use mathlib.Core.Path.{_≡_}
 use Rattle.arithmetic.specs.Bits.{bit-length}
 use Rattle.arithmetic.specs.Integers.{down, up}
 use Rattle.arithmetic.specs.Offset.{code, offset-of}
-use Rattle.sat.specs.Clause.{Clauses}
 use Rattle.clause_set.specs.Stores.{Stores, add-clauses}
-use Rattle.norm_csp.specs.Domain.{RisingFrom, last-from}
 use Rattle.log_encoding.specs.Binary.{binary-bits}
-use Rattle.log_encoding.specs.Domain.{at-least, at-most, gaps}
 use Rattle.log_var.specs.Record.{pad}
 use Rattle.log_var.specs.declared.CodeRange.{CodeRange}
 use Rattle.log_var.specs.declared.EncodedBit.{EncodedBit}
@@ -35,22 +30,6 @@ abbrev pub code-range : ℤ → ℤ → CodeRange
 code-range low high =
     let offset = offset-of low in
     record { offset = offset; low = code offset low; high = code offset high; bits = bit-length (code offset high) }
-
--- the clauses that bound a code by k, from below or from above
-abbrev pub bound : Bool → List ℕ → ℕ → Clauses
-bound lower ls k = cond lower (at-least ls k) (at-most ls k)
-
--- from place i on, values rise strictly from the offset or above, up to 4,095 at most
-pub record RisingAt (offset : ℤ) (values : List ℤ) (i : ℕ) : Type 0 where
-  pub offset-down : down offset < 4096
-  pub here : i < length values
-  pub above : offset ≤ℤ getD values i (pos 0)
-  pub rising : RisingFrom (getD values i (pos 0)) (drop (i + 1) values)
-  pub last-up : up (last-from (getD values i (pos 0)) (drop (i + 1) values)) < 4096
-
--- the clauses against the missing codes after the value at i
-abbrev pub gaps-from : List ℕ → ℤ → List ℤ → ℕ → Clauses
-gaps-from ls offset values i = gaps ls (code offset (getD values i (pos 0))) (map (code offset) (drop (i + 1) values))
 
 -- one bit of two values, and the stores s′ after it from s
 pub record BitAdded (f t c v : ℕ) (s : Stores) (r : EncodedBit) (s′ : Stores) : Type 0 where

@@ -1,20 +1,14 @@
-// A setting's record and clauses, after `encode_var_log` of log.rs. Adding a clause always counts it and stores only what lies inside a
-// store, so that a call that is lent nothing only counts.
+// A setting's record and clauses, after `encode_var_log` of log.rs, and its value. A call that is lent no entries only counts.
 ghost use mathlib.Core.Path.{_≡_};
-ghost use mathlib.Core.Bool.{cond};
-ghost use mathlib.Core.List.{[], _∷_};
 ghost use Prim.Native.Nat.{_+_, _-_, _*_, _^_, _≤_, _<_};
-ghost use lib.Signed.{_<ℤ_, _≤ℤ_};
 ghost use Rattle.arithmetic.specs.Integers.{down, up};
-ghost use Rattle.arithmetic.specs.Offset.{code};
 ghost use Rattle.sat.specs.Fresh.{fresh};
 ghost use Rattle.sat.specs.LitArray.{first-lits};
-ghost use Rattle.clause_set.specs.Stores.{Fits, add-clauses, after};
+ghost use Rattle.clause_set.specs.Stores.{Fits, after};
 ghost use Rattle.norm_csp.specs.Domain.{binary, list, range};
 ghost use Rattle.log_encoding.specs.Binary.{binary-bits};
-ghost use Rattle.log_encoding.specs.Domain.{against, gap};
 ghost use Rattle.log_var.specs.Calls.{Ready, VarAdded};
-ghost use Rattle.log_var.specs.Parts.{BitAdded, BitsAdded, CodesFit, RisingAt, bound, code-range, gaps-from};
+ghost use Rattle.log_var.specs.Parts.{BitAdded, BitsAdded, CodesFit, code-range};
 ghost use Rattle.log_var.specs.Record.{code-of-bytes, pad, read-bytes};
 use arithmetic::bit_length;
 use arithmetic::code;
@@ -22,7 +16,9 @@ use arithmetic::offset_of;
 use arithmetic::value;
 use clause_set::Counts;
 use clause_set::holds;
-use clause_set::put;
+use log_domain::add_against;
+use log_domain::add_bound;
+use log_domain::add_gaps;
 use sat::Lit;
 use sat::Var;
 
@@ -65,138 +61,6 @@ fn code_range(low: i32, high: i32) -> CodeRange
         high: m,
         bits: n,
     }
-}
-
-// Where it is wanted, adds the clause against code k, over the n variables from `first` on.
-fn add_against(
-    wanted: bool,
-    lits: &mut [u32],
-    ends: &mut [u32],
-    first: Var,
-    n: u32,
-    k: u32,
-    at: Counts,
-) -> Counts
-    requires { ⌜ first .0 + n < 2 ^ 31 ⌝ }
-    requires { ⌜ Fits 0 at (cond wanted (against (fresh n (first .0)) k ∷ []) []) ⌝ }
-    ensures { λ r. ⌜ after (now (lits .exit)) (now (ends .exit)) r ≡ add-clauses 0 (cond wanted (against (fresh n (first .0)) k ∷ []) []) (after (now (lits .entry)) (now (ends .entry)) at) ⌝ }
-{
-    if !wanted {
-        return at;
-    }
-    let from = at.lits;
-    let count = at.clauses;
-    let mut x: u32 = k;
-    let mut i: u32 = 0;
-    while i < n {
-        let v = Var(first.0 + i);
-        let l = v.as_lit(x % 2 == 1);
-        put(lits, from + i as usize, l.0);
-        x = x / 2;
-        i += 1;
-    }
-    let end = from + n as usize;
-    put(ends, count + 1, end as u32);
-    Counts {
-        clauses: count + 1,
-        lits: end,
-    }
-}
-
-// Bounds the code of the n variables from `first` on by k: from below by a clause for each set bit of k, from above by one for each
-// clear bit. The clause is against the code that differs from k in that bit, over it and the bits above.
-fn add_bound(
-    lower: bool,
-    lits: &mut [u32],
-    ends: &mut [u32],
-    first: Var,
-    n: u32,
-    k: u32,
-    at: Counts,
-) -> Counts
-    requires { ⌜ (first .0 + n < 2 ^ 31) × (k < 2 ^ 31) ⌝ }
-    requires { ⌜ Fits 0 at (bound lower (fresh n (first .0)) k) ⌝ }
-    ensures { λ r. ⌜ after (now (lits .exit)) (now (ends .exit)) r ≡ add-clauses 0 (bound lower (fresh n (first .0)) k) (after (now (lits .entry)) (now (ends .entry)) at) ⌝ }
-{
-    let mut used = at;
-    let mut x: u32 = k;
-    let mut i: u32 = 0;
-    while i < n {
-        let v = Var(first.0 + i);
-        let wanted = (x % 2 == 1) == lower;
-        used = add_against(wanted, lits, ends, v, n - i, x + 1 - 2 * (x % 2), used);
-        x = x / 2;
-        i += 1;
-    }
-    used
-}
-
-// Adds a clause against each of `many` codes from k on.
-fn add_gap(
-    lits: &mut [u32],
-    ends: &mut [u32],
-    first: Var,
-    n: u32,
-    k: u32,
-    many: u32,
-    at: Counts,
-) -> Counts
-    requires { ⌜ (first .0 + n < 2 ^ 31) × (k + many < 2 ^ 31) ⌝ }
-    requires { ⌜ Fits 0 at (gap (fresh n (first .0)) k many) ⌝ }
-    ensures { λ r. ⌜ after (now (lits .exit)) (now (ends .exit)) r ≡ add-clauses 0 (gap (fresh n (first .0)) k many) (after (now (lits .entry)) (now (ends .entry)) at) ⌝ }
-{
-    let mut used = at;
-    let mut i: u32 = 0;
-    while i < many {
-        used = add_against(true, lits, ends, first, n, k + i, used);
-        i += 1;
-    }
-    used
-}
-
-// Adds a clause against each code between those of two values.
-fn add_gap_between(
-    lits: &mut [u32],
-    ends: &mut [u32],
-    first: Var,
-    n: u32,
-    offset: i32,
-    a: i32,
-    b: i32,
-    at: Counts,
-) -> Counts
-    requires { ⌜ (first .0 + n < 2 ^ 31) × (offset ≤ℤ a) × (a <ℤ b) × (up b < 4096) × (down offset < 4096) ⌝ }
-    requires { ⌜ Fits 0 at (gap (fresh n (first .0)) (code offset a + 1) (code offset b - (code offset a + 1))) ⌝ }
-    ensures { λ r. ⌜ after (now (lits .exit)) (now (ends .exit)) r ≡ add-clauses 0 (gap (fresh n (first .0)) (code offset a + 1) (code offset b - (code offset a + 1))) (after (now (lits .entry)) (now (ends .entry)) at) ⌝ }
-{
-    let k = code(offset, a);
-    let m = code(offset, b);
-    add_gap(lits, ends, first, n, k + 1, m - (k + 1), at)
-}
-
-// Adds a clause against each missing code of a list of values, rising.
-fn add_gaps(
-    lits: &mut [u32],
-    ends: &mut [u32],
-    first: Var,
-    n: u32,
-    offset: i32,
-    values: &[i32],
-    at: Counts,
-) -> Counts
-    requires { ⌜ (first .0 + n < 2 ^ 31) × RisingAt offset (now values) 0 ⌝ }
-    requires { ⌜ Fits 0 at (gaps-from (fresh n (first .0)) offset (now values) 0) ⌝ }
-    ensures { λ r. ⌜ after (now (lits .exit)) (now (ends .exit)) r ≡ add-clauses 0 (gaps-from (fresh n (first .0)) offset (now (values .entry)) 0) (after (now (lits .entry)) (now (ends .entry)) at) ⌝ }
-{
-    let mut used = at;
-    let mut i: usize = 0;
-    while i + 1 < values.len() {
-        let a = values[i];
-        let b = values[i + 1];
-        used = add_gap_between(lits, ends, first, n, offset, a, b, used);
-        i += 1;
-    }
-    used
 }
 
 // The plain literals of n new variables from `first` on, in the places of a record.

@@ -1,6 +1,4 @@
 pub mod Infos
 pub mod Equated
-pub mod Stored
-pub mod Table
-pub mod TableWalk
+pub mod Filling
 pub mod TableTells

@@ -12,10 +12,11 @@ use native.Mathlib.Omega.{arith}
 use Rattle.mixed.specs.declared.LinearInfo.{LinearInfo}
 use Rattle.log_encoding.specs.Enumerate.{branch, enumerate}
 use Rattle.mixed.specs.Infos.{info-lit, info-term, infos-left, no-info, thresholds}
-use Rattle.mixed.specs.Table.{Filled, SoundTable, put-last, put-rows, walk}
+use Rattle.mixed_table.specs.Table.{SoundTable, walk}
+use Rattle.mixed.specs.Filling.{Filled, put-last, put-rows}
 use Rattle.mixed.proofs.Infos.{last-none, last-one, left-more, length-thresholds}
-use Rattle.mixed.proofs.Table.{Last, Row, kept-end, kept-last, kept-row, last-length, last-part, last-sound, rows-length, rows-row, rows-sound}
-use Rattle.mixed.proofs.TableWalk.{walk-covered, walk-last, walk-more}
+use Rattle.mixed.proofs.Filling.{Last, Row, kept-end, kept-last, kept-row, last-length, last-part, last-sound, rows-length, rows-row, rows-sound}
+use Rattle.mixed_table.proofs.Walk.{walk-covered, walk-last, walk-more}
 
 which : (a b : ℕ) → (a ≤ b) ⊎ (b < a)
 which zero b = inl zero-le

@@ -1,2 +1,2 @@
 pub mod Infos
-pub mod Table
+pub mod Filling

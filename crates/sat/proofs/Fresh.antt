@@ -4,7 +4,8 @@ use borrow.Author.Tests.{le-ltb, lt-ltb}
 use lib.Dec.{leb, ltb}
 use lib.ListN.{getD, length}
 use mathlib.Core.Logic.{by-cases}
-use mathlib.Core.Path.{_∙_, _≡_, ap, refl, sym}
+use mathlib.Core.List.{[], _∷_}
+use mathlib.Core.Path.{_∙_, _≡_, ap, ap₂, refl, sym}
 use native.Mathlib.Decide.{decLt}
 use native.Mathlib.Omega.{arith}
 use Rattle.arithmetic.proofs.Tests.{leb-same}
@@ -62,3 +63,20 @@ pub fresh-agree : (α β : Assignment) (n v : ℕ) → Monotone α (fresh n v) �
 fresh-agree α β n v f g e agree x h =
     by-cases (decLt x v) (agree x)
     (λ high. fresh-holds α n v x f (omega arith) h ∙ ap (leb (suc (x - v))) e ∙ sym (fresh-holds β n v x g (omega arith) h))
+
+-- One turn of a loop over new variables ------------------------------------------------------------------------------
+
+pub fresh-start : (n v : ℕ) → fresh n v ≡ fresh (n - 0) (v + 0)
+fresh-start n v =
+    let m : n ≡ n - 0 = omega arith in
+    let w : v ≡ v + 0 = omega arith in
+    ap₂ fresh m w
+
+pub fresh-step : (n v i : ℕ) → i < n → fresh (n - i) (v + i) ≡ 2 * (v + i) ∷ fresh (n - (i + 1)) (v + (i + 1))
+fresh-step n v i h =
+    let e : n - i ≡ suc (n - (i + 1)) = omega arith in
+    let f : suc (v + i) ≡ v + (i + 1) = omega arith in
+    ap (λ m. fresh m (v + i)) e ∙ ap (λ w. 2 * (v + i) ∷ fresh (n - (i + 1)) w) f
+
+pub fresh-end : (n v i : ℕ) → n ≤ i → fresh (n - i) (v + i) ≡ []
+fresh-end n v i h = let e : n - i ≡ 0 = omega arith in ap (λ m. fresh m (v + i)) e

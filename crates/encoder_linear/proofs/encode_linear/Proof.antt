@@ -5,13 +5,13 @@ use lib.ListN.{length}
 use mir.Syntax.{w32}
 use mir.Val.{ofZ, toZ}
 use mir.ValLaws.{toZ-ofZ}
-use Rattle.encoder_answer.proofs.Answering.{Call, all-passed, call-refused, rule-added, rule-fits}
+use Rattle.encoder_answer.proofs.Answering.{AddingCall, all-passed, call-refused, rule-added, rule-fits}
 use Rattle.encoder_linear.proofs.Ready.{sum-call, sum-ready}
 use Rattle.encoder_linear.proofs.encode_linear.Statement.{statement}
 use Rattle.encoder_linear.proofs.encode_linear.Tie as tie
 
 -- the call, as the callees have it
-abbrev call : (s : tie.Start) → Call (s .args .env) (length (s .args .lits .now)) (length (s .args .ends .now))
+abbrev call : (s : tie.Start) → AddingCall (s .args .env) (length (s .args .lits .now)) (length (s .args .ends .now))
 call s = let a = s .args in sum-call (a .env) (length (a .lits .now)) (length (a .ends .now)) (a .op) (toZ w32 (ofZ w32 (a .constant))) (a .terms .now)
 
 linear-status-requires : tie.Need-linear-status-requires

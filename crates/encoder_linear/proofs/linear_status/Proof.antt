@@ -4,13 +4,13 @@ use mathlib.Core.Path.{_∙_, sym}
 use mir.Syntax.{w32}
 use mir.Val.{ofZ, toZ}
 use mir.ValLaws.{toZ-ofZ}
-use Rattle.encoder_answer.proofs.Answering.{Call, refused-before, space-settles}
+use Rattle.encoder_answer.proofs.Answering.{AddingCall, refused-before, space-settles}
 use Rattle.encoder_linear.proofs.Ready.{sum-call, sum-ready}
 use Rattle.encoder_linear.proofs.linear_status.Statement.{statement}
 use Rattle.encoder_linear.proofs.linear_status.Tie as tie
 
 -- the call, as the callees have it
-abbrev call : (s : tie.Start) → Call (s .args .env) (s .args .lits) (s .args .ends)
+abbrev call : (s : tie.Start) → AddingCall (s .args .env) (s .args .lits) (s .args .ends)
 call s = let a = s .args in sum-call (a .env) (a .lits) (a .ends) (a .op) (toZ w32 (ofZ w32 (a .constant))) (a .terms .now)
 
 linear-checks-requires : tie.Need-linear-checks-requires

@@ -2,13 +2,13 @@
 use borrow.Author.Needs.{needs}
 use mathlib.Core.Path.{refl}
 use lib.ListN.{length}
-use Rattle.encoder_answer.proofs.Answering.{Call, all-passed, call-refused, rule-added, rule-fits}
+use Rattle.encoder_answer.proofs.Answering.{AddingCall, all-passed, call-refused, rule-added, rule-fits}
 use Rattle.encoder_mul.proofs.Ready.{mul-call, mul-ready}
 use Rattle.encoder_mul.proofs.encode_mul.Statement.{statement}
 use Rattle.encoder_mul.proofs.encode_mul.Tie as tie
 
 -- the call, as the callees have it
-abbrev call : (s : tie.Start) → Call (s .args .env) (length (s .args .lits .now)) (length (s .args .ends .now))
+abbrev call : (s : tie.Start) → AddingCall (s .args .env) (length (s .args .lits .now)) (length (s .args .ends .now))
 call s = let a = s .args in mul-call (a .env) (length (a .lits .now)) (length (a .ends .now)) (a .x) (a .y) (a .m)
 
 mul-status-requires : tie.Need-mul-status-requires

@@ -1,13 +1,13 @@
 -- `encoder_mul::mul_status` meets its contract.
 use borrow.Author.Needs.{needs}
 use mathlib.Core.Path.{_∙_, sym}
-use Rattle.encoder_answer.proofs.Answering.{Call, refused-before, space-settles}
+use Rattle.encoder_answer.proofs.Answering.{AddingCall, refused-before, space-settles}
 use Rattle.encoder_mul.proofs.Ready.{mul-call, mul-ready}
 use Rattle.encoder_mul.proofs.mul_status.Statement.{statement}
 use Rattle.encoder_mul.proofs.mul_status.Tie as tie
 
 -- the call, as the callees have it
-abbrev call : (s : tie.Start) → Call (s .args .env) (s .args .lits) (s .args .ends)
+abbrev call : (s : tie.Start) → AddingCall (s .args .env) (s .args .lits) (s .args .ends)
 call s = let a = s .args in mul-call (a .env) (a .lits) (a .ends) (a .x) (a .y) (a .m)
 
 mul-checks-requires : tie.Need-mul-checks-requires

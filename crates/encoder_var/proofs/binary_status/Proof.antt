@@ -5,13 +5,13 @@ use mir.Syntax.{w32}
 use mir.Val.{ofZ, toZ}
 use mir.ValLaws.{toZ-ofZ}
 use Rattle.norm_csp.specs.Domain.{binary}
-use Rattle.encoder_answer.proofs.Answering.{Call, refused-before, space-settles}
+use Rattle.encoder_answer.proofs.Answering.{AddingCall, refused-before, space-settles}
 use Rattle.encoder_var.proofs.Settings.{setting-call, setting-ready}
 use Rattle.encoder_var.proofs.binary_status.Statement.{statement}
 use Rattle.encoder_var.proofs.binary_status.Tie as tie
 
 -- the call, as the callees have it
-abbrev call : (s : tie.Start) → Call (s .args .env) (s .args .lits) (s .args .ends)
+abbrev call : (s : tie.Start) → AddingCall (s .args .env) (s .args .lits) (s .args .ends)
 call s = let a = s .args in setting-call (a .env) (a .lits) (a .ends) (binary (a .cond .0) (toZ w32 (ofZ w32 (a .f))) (toZ w32 (ofZ w32 (a .t))))
 
 binary-checks-requires : tie.Need-binary-checks-requires

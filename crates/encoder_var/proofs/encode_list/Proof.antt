@@ -2,13 +2,13 @@
 use borrow.Author.Needs.{needs}
 use lib.ListN.{length}
 use Rattle.norm_csp.specs.Domain.{list}
-use Rattle.encoder_answer.proofs.Answering.{Call, all-passed, call-refused}
+use Rattle.encoder_answer.proofs.Answering.{AddingCall, all-passed, call-refused}
 use Rattle.encoder_var.proofs.Settings.{setting-added, setting-call, setting-fits, setting-ready}
 use Rattle.encoder_var.proofs.encode_list.Statement.{statement}
 use Rattle.encoder_var.proofs.encode_list.Tie as tie
 
 -- the call, as the callees have it
-abbrev call : (s : tie.Start) → Call (s .args .env) (length (s .args .lits .now)) (length (s .args .ends .now))
+abbrev call : (s : tie.Start) → AddingCall (s .args .env) (length (s .args .lits .now)) (length (s .args .ends .now))
 call s = let a = s .args in setting-call (a .env) (length (a .lits .now)) (length (a .ends .now)) (list (a .values .now))
 
 list-status-requires : tie.Need-list-status-requires

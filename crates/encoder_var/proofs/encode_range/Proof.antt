@@ -5,13 +5,13 @@ use mir.Syntax.{w32}
 use mir.Val.{ofZ, toZ}
 use mir.ValLaws.{toZ-ofZ}
 use Rattle.norm_csp.specs.Domain.{range}
-use Rattle.encoder_answer.proofs.Answering.{Call, all-passed, call-refused}
+use Rattle.encoder_answer.proofs.Answering.{AddingCall, all-passed, call-refused}
 use Rattle.encoder_var.proofs.Settings.{setting-added, setting-call, setting-fits, setting-ready}
 use Rattle.encoder_var.proofs.encode_range.Statement.{statement}
 use Rattle.encoder_var.proofs.encode_range.Tie as tie
 
 -- the call, as the callees have it
-abbrev call : (s : tie.Start) → Call (s .args .env) (length (s .args .lits .now)) (length (s .args .ends .now))
+abbrev call : (s : tie.Start) → AddingCall (s .args .env) (length (s .args .lits .now)) (length (s .args .ends .now))
 call s = let a = s .args in setting-call (a .env) (length (a .lits .now)) (length (a .ends .now)) (range (toZ w32 (ofZ w32 (a .low))) (toZ w32 (ofZ w32 (a .high))))
 
 range-status-requires : tie.Need-range-status-requires

@@ -2,13 +2,13 @@
 use borrow.Author.Needs.{needs}
 use mathlib.Core.Path.{_∙_, sym}
 use Rattle.norm_csp.specs.Domain.{list}
-use Rattle.encoder_answer.proofs.Answering.{Call, refused-before, space-settles}
+use Rattle.encoder_answer.proofs.Answering.{AddingCall, refused-before, space-settles}
 use Rattle.encoder_var.proofs.Settings.{setting-call, setting-ready}
 use Rattle.encoder_var.proofs.list_status.Statement.{statement}
 use Rattle.encoder_var.proofs.list_status.Tie as tie
 
 -- the call, as the callees have it
-abbrev call : (s : tie.Start) → Call (s .args .env) (s .args .lits) (s .args .ends)
+abbrev call : (s : tie.Start) → AddingCall (s .args .env) (s .args .lits) (s .args .ends)
 call s = let a = s .args in setting-call (a .env) (a .lits) (a .ends) (list (a .values .now))
 
 list-checks-requires : tie.Need-list-checks-requires

@@ -55,6 +55,9 @@ enum-known-first c = search needs
 enum-told : tie.Need-enum-told Inv-loop μ-loop
 enum-told c = search needs
 
+dead-end-requires : tie.Need-dead-end-requires Inv-loop μ-loop
+dead-end-requires c κs = search needs
+
 same-length : tie.Need-same-length Inv-loop μ-loop
 same-length c = c .before .before .before .before .before .before .before .before .loop .inv .lits-long
 
@@ -65,7 +68,7 @@ returns : tie.Need-returns Inv-loop μ-loop
 returns c =
     let s = c .before .before .before .before .before .before .before .before .before .before .before .before in
     ordering-dead (s .args .t3) (s .args .g) (s .args .at) (s .pre .0 .1) (fits s) (c .before .before .before .before .before .before .before .before .loop .inv) (c .before .before .before .before .before .before .before .loop-test .taken)
-    (sym (c .before .before .before .next-carry .ensures) ∙ ap carry-of (c .before .enum-told .given .1))
+    (sym (c .before .before .before .next-carry .ensures) ∙ ap carry-of (c .before .enum-told .given .1)) (c .dead-end .result) (c .dead-end .ensures)
 
 order-next-requires : tie.Need-order-next-requires Inv-loop μ-loop
 order-next-requires c κs =
@@ -119,6 +122,7 @@ order-carries-spec =
     next-carry-requires
     enum-known-first
     enum-told
+    dead-end-requires
     same-length
     same-length-2
     returns

@@ -19,10 +19,10 @@ width-of-requires : tie.Need-width-of-requires
 width-of-requires c κs = c .pre .0
 
 up-requires : tie.Need-up-requires
-up-requires c κs = let s = c .before in rw (toZ-ofZ w32 (s .args .constant) (s .fits .constant)) (s .pre .1 .0)
+up-requires c κs = let s = c .before in rw (toZ-ofZ w32 (s .args .constant) (s .fits .constant)) (omega (arith, s .pre .1 .0))
 
 down-requires : tie.Need-down-requires
-down-requires c κs = let s = c .before .before in rw (toZ-ofZ w32 (s .args .constant) (s .fits .constant)) (s .pre .1 .1)
+down-requires c κs = let s = c .before .before in rw (toZ-ofZ w32 (s .args .constant) (s .fits .constant)) (omega (arith, s .pre .1 .1))
 
 eq-target-requires : tie.Need-eq-target-requires
 eq-target-requires c κs = let s = c .before .before .before in (s .pre .0, rw (b-is c) (s .pre .1 .1))

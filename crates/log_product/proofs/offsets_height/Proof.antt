@@ -19,7 +19,7 @@ use Rattle.log_terms.specs.Terms.{weighted-all}
 use Rattle.log_encoding.specs.EncodeMulLog.{mul-constant}
 use Rattle.log_encoding.specs.MulSize.{multiplier-reached, offset-shapes}
 use Rattle.log_product.proofs.OffsetSum.{shapes-reached}
-use Rattle.log_sum.proofs.Compared.{height-append}
+use Rattle.log_weighted.proofs.Compared.{height-append}
 use Rattle.log_product.proofs.OffsetTerms.{offset-is}
 use borrow.Author.Needs.{needs}
 use Rattle.log_product.proofs.offsets_height.Statement.{statement}

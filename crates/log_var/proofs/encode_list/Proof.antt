@@ -13,7 +13,7 @@ use Rattle.sat.specs.Fresh.{fresh}
 use Rattle.clause_set.specs.Stores.{add-clauses, after}
 use Rattle.norm_csp.specs.Domain.{range}
 use Rattle.log_var.specs.Calls.{VarAdded}
-use Rattle.log_var.specs.Parts.{gaps-from}
+use Rattle.log_domain.specs.Domain.{gaps-from}
 use Rattle.log_var.proofs.Calls.{ListParts, list-added, list-fits, list-offset, list-parts, list-small, same-range}
 use Rattle.log_var.proofs.encode_list.Statement.{statement}
 use Rattle.log_var.proofs.encode_list.Tie as tie

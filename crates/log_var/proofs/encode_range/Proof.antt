@@ -5,7 +5,8 @@ use native.Mathlib.Omega.{arith}
 use mir.Syntax.{w32}
 use mir.ValLaws.{toZ-ofZ}
 use Rattle.sat.specs.Fresh.{fresh}
-use Rattle.log_var.specs.Parts.{bound, code-range}
+use Rattle.log_domain.specs.Domain.{bound}
+use Rattle.log_var.specs.Parts.{code-range}
 use Rattle.log_var.proofs.Calls.{range-added, range-codes, range-fits, range-offset, range-small}
 use Rattle.clause_set.proofs.Adding.{fits-first, fits-then}
 use Rattle.log_var.proofs.encode_range.Statement.{statement}

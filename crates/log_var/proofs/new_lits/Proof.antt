@@ -7,10 +7,9 @@ use native.Mathlib.Omega.{arith}
 use lib.ListN.{replicate}
 use lib.Seq.{sets}
 use Rattle.sat.specs.Fresh.{fresh}
-use Rattle.sat.proofs.Fresh.{length-fresh}
+use Rattle.sat.proofs.Fresh.{fresh-end, fresh-start, fresh-step, length-fresh}
 use Rattle.sat.specs.LitArray.{lit}
 use Rattle.log_var.proofs.Bits.{placed-all, placed-turn}
-use Rattle.log_var.proofs.Steps.{fresh-end, fresh-start, fresh-step}
 use Rattle.log_var.proofs.new_lits.Statement.{statement}
 use Rattle.log_var.proofs.new_lits.Tie as tie
 

@@ -3,9 +3,9 @@ use mathlib.Core.Path.{_≡_, ap, sym, _∙_}
 use Prim.Native.Nat.{_-_, _*_, _/_, _≤_, _<_}
 use native.Mathlib.Omega.{arith}
 use lib.ListN.{set}
-use Rattle.mixed.specs.Table.{put-ends}
+use Rattle.mixed.specs.Filling.{put-ends}
 use Rattle.mixed.proofs.Infos.{factor, covers}
-use Rattle.mixed.proofs.Table.{ends-none, ends-turn}
+use Rattle.mixed.proofs.Filling.{ends-none, ends-turn}
 use borrow.Author.Needs.{needs}
 use Rattle.mixed.proofs.add_last.Statement.{statement}
 use Rattle.mixed.proofs.add_last.Tie as tie

@@ -5,8 +5,8 @@ use native.Mathlib.Nat.{mul-zero, mul-suc}
 use native.Mathlib.Numerals.{add-one}
 use native.Mathlib.Omega.{arith}
 use Rattle.mixed.specs.Infos.{info-lit}
-use Rattle.mixed.specs.Table.{put-rows}
-use Rattle.mixed.proofs.Table.{more-below, rows-none, rows-turn}
+use Rattle.mixed.specs.Filling.{put-rows}
+use Rattle.mixed.proofs.Filling.{more-below, rows-none, rows-turn}
 use borrow.Author.Needs.{needs}
 use Rattle.mixed.proofs.add_term.Statement.{statement}
 use Rattle.mixed.proofs.add_term.Tie as tie

@@ -7,7 +7,7 @@ use Rattle.log_encoding.specs.Enumerate.{bounded, enumerate}
 use Rattle.clause_set.specs.Clause.{clause-lits}
 use Rattle.mixed.specs.Infos.{info-term, infos-left}
 use Rattle.mixed.proofs.Infos.{bounded-dead, bounded-live}
-use Rattle.mixed.specs.Table.{walk}
+use Rattle.mixed_table.specs.Table.{walk}
 use borrow.Author.Needs.{needs}
 use Rattle.mixed.proofs.encode_linear_ge_mixed_from_info.Statement.{statement}
 use Rattle.mixed.proofs.encode_linear_ge_mixed_from_info.Tie as tie

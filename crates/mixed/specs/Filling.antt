@@ -1,0 +1,31 @@
+-- How a table (mixed_table, specs/Table) is filled from terms; `Filled` says that the clauses it tells are those of `enumerate`.
+use Prim.Native.Nat.{_*_, _+_, _-_, _/_, _<_, suc, zero, ℕ}
+use lib.ListN.{set}
+use mathlib.Core.List.{List, map}
+use mathlib.Core.Path.{_≡_}
+use Rattle.log_encoding.specs.Enumerate.{enumerate}
+use Rattle.mixed_table.specs.Table.{SoundTable, walk}
+use Rattle.mixed.specs.Infos.{info-lit, info-term}
+use Rattle.mixed.specs.declared.LinearInfo.{LinearInfo}
+
+abbrev pub put-row : List ℕ → ℕ → ℕ → ℕ → ℕ → ℕ → List ℕ
+put-row tab k lit cost next loss = set (set (set (set tab k lit) (24 + k) cost) (48 + k) next) (72 + k) loss
+
+-- the last i thresholds of a term that has n thresholds after it and a loss of r
+unfoldable pub put-rows : List ℕ → LinearInfo → ℕ → ℕ → ℕ → List ℕ
+put-rows tab t n r zero = tab
+put-rows tab t n r (suc i) =
+    put-row (put-rows tab t n r i) (suc i + n) (info-lit t (t .count - suc i)) (t .weight * suc i) n (t .weight * suc i + r)
+
+-- the last term: its literals at the first s slacks
+unfoldable pub put-ends : List ℕ → LinearInfo → ℕ → List ℕ
+put-ends tab t zero = tab
+put-ends tab t (suc s) = set (put-ends tab t s) (96 + s) (info-lit t (t .count - s / t .weight - 1))
+
+abbrev pub put-last : List ℕ → LinearInfo → List ℕ
+put-last tab t = put-ends (set tab 72 (t .weight * t .count)) t (t .weight * t .count)
+
+-- r thresholds stand before the last term, and the table tells the clauses of the terms; or r is 24, and the terms do not fit
+pub record Filled (tab : List ℕ) (ts : List LinearInfo) (r : ℕ) : Type 0 where
+  pub sound : r < 24 → SoundTable tab
+  pub same : r < 24 → (slack : ℕ) (prefix : List ℕ) → walk tab r slack prefix ≡ enumerate (map info-term ts) slack prefix
