@@ -13,7 +13,8 @@ use Rattle.encoder_read.specs.Calls.{open-outcome, opened}
 use Rattle.encoder_answer.specs.Outcome.{Outcome}
 use Rattle.encoder.specs.Run.{Call, State, answered, book, enter, left, outcome, run}
 use Rattle.encoder.proofs.Faithful.{demand-3}
-use Rattle.job_file.specs.Fields.{Field, broken, call-of, field, fields-of, right-length, right-place, switches-in}
+use Rattle.job_fields.specs.Fields.{Field, broken, field, fields-of, right-length, right-place}
+use Rattle.job_file.specs.Calls.{call-of, switches-in}
 use Rattle.job_file.specs.Run.{JobRun, called, ended, field-outcome, not-read, run-fields, run-file, state}
 use Rattle.job_file.specs.Accepted.{AcceptedIsRun, AllAccepted, JobFileFaithful, calls-behind, calls-in, calls-of, entered, left-by, opening-in, switches-of}
 

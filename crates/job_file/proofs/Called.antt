@@ -1,14 +1,12 @@
 -- What the code's calls come to: the call of each tag, on its contents.
 use Prim.Native.Nat.{_*_, _-_, _/_, _<_, _≤_, ℕ}
 use native.Mathlib.Omega.{arith}
-use mathlib.Core.Path.{_≡_, refl, subst, sym}
-use mathlib.Core.Bool.{Bool, cond, false, true, true≢false}
+use mathlib.Core.Path.{_≡_, refl, subst}
+use mathlib.Core.Bool.{false, true}
 use mathlib.Core.List.{List}
-use lib.Dec.{eqb}
 use lib.IntN.{pos, ℤ}
 use lib.ListN.{drop, getD, length, length-drop, take}
 use lib.Seq.{take-all}
-use borrow.Author.Tests.{eqb-true, ne-eqb}
 use Rattle.norm_csp.specs.Domain.{binary, list, range}
 use Rattle.encoder_env.specs.declared.EncoderEnv.{EncoderEnv}
 use Rattle.encoder_answer.specs.declared.Answer.{Answer}
@@ -17,10 +15,12 @@ use Rattle.encoder_var.specs.Settings.{setting-outcome}
 use Rattle.encoder_answer.specs.Outcome.{Answers, Outcome}
 use Rattle.encoder_mul.specs.Products.{mul-outcome}
 use Rattle.encoder_linear.specs.Sums.{linear-outcome}
-use Rattle.job_file.specs.Numbers.{signed-long, signed-word, terms, values, word-at}
-use Rattle.job_file.specs.Fields.{call-of, field, right-length, right-place, switches-in}
+use Rattle.job_fields.specs.Numbers.{signed-long, signed-word, terms, values, word-at}
+use Rattle.job_fields.specs.Fields.{field, right-length, right-place}
+use Rattle.job_fields.proofs.NumbersRead.{terms-length, values-length}
+use Rattle.job_file.specs.Calls.{call-of, switches-in}
 use Rattle.job_file.specs.Run.{called, field-outcome, state}
-use Rattle.job_file.proofs.Many.{many-terms, many-values, terms-length, values-length}
+use Rattle.job_file.proofs.Many.{many-terms, many-values}
 
 module _ (env : EncoderEnv) (lits ends s : List ℕ) {a : Answer} {l e : List ℕ} where
   pub open-called : Answers (open-outcome (switches-in s) lits ends) a l e → Answers (called (state env lits ends) 1 s) a l e
@@ -92,12 +92,3 @@ pub linear-terms : (s : List ℕ) (xs : List ℤ) → 5 ≤ length s
 linear-terms s xs h e =
     let w : take (length s - 5) (drop 5 s) ≡ drop 5 s = take-all (length s - 5) (drop 5 s) (rw length-drop (omega arith)) in
     rw (w, length-drop 5 s) at e
-
--- no other tag has a right length
-pub tag-6 : (t n : ℕ) → (t ≡ 1 → ⊥) → (t ≡ 2 → ⊥) → (t ≡ 3 → ⊥) → (t ≡ 4 → ⊥) → (t ≡ 5 → ⊥) → right-length t n ≡ true → (t ≡ 6) × (n ≡ 3)
-unfolding right-length
-tag-6 t n a b c d e h = go (eqb t 6) refl (rw (ne-eqb t 1 a, ne-eqb t 2 b, ne-eqb t 3 c, ne-eqb t 4 d, ne-eqb t 5 e) at h)
-  where
-    go : (x : Bool) → eqb t 6 ≡ x → cond x (eqb n 3) false ≡ true → (t ≡ 6) × (n ≡ 3)
-    go true p g = (eqb-true t 6 p, eqb-true n 3 g)
-    go false p g = absurd (true≢false (sym g))

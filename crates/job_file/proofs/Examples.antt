@@ -11,8 +11,9 @@ use Rattle.log_var.specs.Record.{pad}
 use Rattle.encoder_env.specs.WellFormed.{all-below, bounds-hold, encoding-holds, eqz, is-spare, lez, record-holds, stores-within, well-formed}
 use Rattle.encoder.specs.Run.{encode-binary, encode-linear, encode-list, encode-mul, encode-range}
 use Rattle.encoder.specs.Faithful.{written}
-use Rattle.job_file.specs.Numbers.{long-at, signed, signed-long, signed-word, terms, values, word, word-at}
-use Rattle.job_file.specs.Fields.{call-of, fields, fields-of, right-length, right-place, switches-in}
+use Rattle.job_fields.specs.Numbers.{long-at, signed, signed-long, signed-word, terms, values, word, word-at}
+use Rattle.job_fields.specs.Fields.{fields, fields-of, right-length, right-place}
+use Rattle.job_file.specs.Calls.{call-of, switches-in}
 use Rattle.job_file.specs.Run.{called, field-outcome, run-fields, run-file}
 use Rattle.job_file.specs.Accepted.{calls-of, left-by, switches-of}
 

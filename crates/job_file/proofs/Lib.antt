@@ -1,5 +1,3 @@
-pub mod NumbersRead
-pub mod Places
 pub mod Called
 pub mod Refused
 pub mod Running

@@ -1,11 +1,11 @@
 -- More values or terms than a call takes are refused whatever they are (`many-values`, `many-terms`).
-use Prim.Native.Nat.{_*_, _/_, _<_, ℕ}
+use Prim.Native.Nat.{_<_, ℕ}
 use lib.Dec.{ltb}
 use lib.IntN.{ℤ}
 use lib.ListN.{length}
 use mathlib.Core.Bool.{Bool, cond, false, true}
-use mathlib.Core.List.{List, [], _∷_}
-use mathlib.Core.Path.{_∙_, _≡_, refl, sym}
+use mathlib.Core.List.{List}
+use mathlib.Core.Path.{_∙_, _≡_, sym}
 use native.Mathlib.Omega.{arith}
 use borrow.Author.Tests.{le-leb, lt-leb}
 use Rattle.norm_csp.specs.Domain.{list}
@@ -15,20 +15,6 @@ use Rattle.encoder_answer.specs.Outcome.{refused}
 use Rattle.encoder_answer.proofs.Statuses.{settled-refused}
 use Rattle.encoder_linear.specs.Sums.{linear-outcome, linear-status}
 use Rattle.encoder_var.specs.Settings.{setting-outcome, setting-status}
-use Rattle.job_file.specs.Numbers.{terms, values}
-
-pub values-length : (s : List ℕ) → length (values s) ≡ length s / 2
-unfolding values
-values-length [] = refl
-values-length (a ∷ []) = refl
-values-length (a ∷ b ∷ s) = omega (arith, values-length s)
-
-pub terms-length : (s : List ℕ) → length (terms s) ≡ 2 * (length s / 3)
-unfolding terms
-terms-length [] = refl
-terms-length (x ∷ []) = refl
-terms-length (x ∷ a ∷ []) = refl
-terms-length (x ∷ a ∷ b ∷ s) = omega (arith, terms-length s)
 
 module _ (env : EncoderEnv) (lits ends : List ℕ) where
   abbrev well : Bool

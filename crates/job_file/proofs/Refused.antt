@@ -10,7 +10,8 @@ use Rattle.encoder_read.specs.Calls.{open-checks, open-outcome, opened}
 use Rattle.encoder_answer.specs.Outcome.{Outcome, refused, status-of}
 use Rattle.encoder.specs.Run.{State, outcome}
 use Rattle.encoder.proofs.Faithful.{call-refused}
-use Rattle.job_file.specs.Fields.{call-of, field, right-length, right-place, switches-in}
+use Rattle.job_fields.specs.Fields.{field, right-length, right-place}
+use Rattle.job_file.specs.Calls.{call-of, switches-in}
 use Rattle.job_file.specs.Run.{called, field-outcome, not-read}
 
 abbrev pub Unchanged : Outcome → State → Type 0

@@ -1,5 +1,5 @@
 -- Laws of the loop over the fields: what is left of the run gives the whole.
-use Prim.Native.Nat.{_+_, _-_, _<_, _≤_, suc, zero, ℕ}
+use Prim.Native.Nat.{_+_, _-_, _<_, _≤_, ℕ}
 use native.Mathlib.Omega.{arith}
 use mathlib.Core.Path.{_∙_, _≡_, ap, sym}
 use mathlib.Core.List.{List}
@@ -9,13 +9,13 @@ use Rattle.encoder_env.specs.declared.EncoderEnv.{EncoderEnv}
 use Rattle.encoder_answer.specs.declared.Answer.{Answer}
 use Rattle.encoder_read.specs.Calls.{opened}
 use Rattle.encoder_answer.specs.Outcome.{Answers}
-use Rattle.job_file.specs.Fields.{field, fields, fields-of}
-use Rattle.job_file.specs.Places.{field-at}
+use Rattle.job_fields.specs.Fields.{field, fields, fields-of}
+use Rattle.job_fields.specs.Places.{field-at}
+use Rattle.job_fields.specs.declared.fields.FieldAt.{FieldAt}
+use Rattle.job_fields.specs.declared.fields.FieldAt.the-variants.{Broken, Contents, End}
+use Rattle.job_fields.proofs.Places.{Within, fields-at, fields-from}
 use Rattle.job_file.specs.Run.{JobRun, ended, field-outcome, run-fields, run-file, state}
-use Rattle.job_file.specs.declared.fields.FieldAt.{FieldAt}
-use Rattle.job_file.specs.declared.fields.FieldAt.the-variants.{Broken, Contents, End}
 use Rattle.job_file.proofs.Refused.{field-unchanged}
-use Rattle.job_file.proofs.Places.{Within, at-end, fields-from, first-field}
 
 -- from a place on, with enough fields to come
 pub record Going (s : List ℕ) (all : JobRun) (at index : ℕ) (env : EncoderEnv) (lits ends : List ℕ) : Type 0 where
@@ -31,11 +31,6 @@ module _ (s lits ends : List ℕ) {env : EncoderEnv} (e : env ≡ opened 0) wher
   pub going-start : length s ≤ 8192 → Going s (run-file s lits ends) 0 0 env lits ends
   unfolding run-file fields-of
   going-start h = record { most = length s; enough = omega arith; rest = rw (e, le-leb (length s) 8192 h) }
-
-fields-at : (n : ℕ) (s : List ℕ) (at : ℕ) → length s - at ≤ n → fields n (drop at s) ≡ fields-from (n - 1) s (field-at s at)
-unfolding fields
-fields-at zero s at h = ap (fields-from 0 s) (at-end s at (omega arith))
-fields-at (suc n) s at h = let e : suc n - 1 ≡ n = omega arith in rw e (first-field n s at)
 
 module _ {s : List ℕ} {all : JobRun} {at index : ℕ} {env : EncoderEnv} {lits ends : List ℕ} (g : Going s all at index env lits ends)
     {r : FieldAt} (p : r ≡ field-at s at) where

@@ -7,7 +7,8 @@ use Rattle.norm_csp.specs.NormCsp.{NormCsp, begun}
 use Rattle.encoder_read.specs.Calls.{open-outcome}
 use Rattle.encoder.specs.Run.{Call, State, enter, left, outcome, run}
 use Rattle.encoder.specs.Faithful.{Faithful}
-use Rattle.job_file.specs.Fields.{Field, broken, call-of, field, fields-of, switches-in}
+use Rattle.job_fields.specs.Fields.{Field, broken, field, fields-of}
+use Rattle.job_file.specs.Calls.{call-of, switches-in}
 use Rattle.job_file.specs.Run.{JobRun, run-file, state}
 
 -- the calls of some fields

@@ -1,5 +1,3 @@
-pub mod Numbers
-pub mod Fields
+pub mod Calls
 pub mod Run
-pub mod Places
 pub mod Accepted

@@ -9,7 +9,8 @@ use Rattle.encoder_env.specs.declared.EncoderEnv.{EncoderEnv}
 use Rattle.encoder_read.specs.Calls.{open-outcome, opened}
 use Rattle.encoder_answer.specs.Outcome.{Outcome, refused}
 use Rattle.encoder.specs.Run.{State, left, outcome}
-use Rattle.job_file.specs.Fields.{Field, broken, call-of, field, fields-of, right-length, right-place, switches-in}
+use Rattle.job_fields.specs.Fields.{Field, broken, field, fields-of, right-length, right-place}
+use Rattle.job_file.specs.Calls.{call-of, switches-in}
 use Rattle.job_file.specs.declared.JobAnswer.{JobAnswer}
 
 -- the field refused and its number, or the number of fields and 0; the job and the stores that the accepted fields left

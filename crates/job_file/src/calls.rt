@@ -5,13 +5,14 @@ ghost use lib.ListN.{length};
 ghost use Prim.Native.Nat.{_≤_};
 ghost use Rattle.encoder_read.specs.Calls.{open-outcome};
 ghost use Rattle.encoder_answer.specs.Outcome.{Answers};
-ghost use Rattle.job_file.specs.Fields.{right-length, switches-in};
+ghost use Rattle.job_fields.specs.Fields.{right-length};
+ghost use Rattle.job_file.specs.Calls.{switches-in};
 ghost use Rattle.job_file.specs.Run.{called, state};
-use crate::numbers;
 use encoder::Answer;
 use encoder::encode_linear;
 use encoder::encode_mul;
 use encoder_env::EncoderEnv;
+use job_fields::numbers;
 use sat::Lit;
 
 // Tag 01: switch count.

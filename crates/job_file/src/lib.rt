@@ -1,16 +1,15 @@
 // The run of a job file: field after field, each one call; the first refusal ends it.
 mod calls;
-mod fields;
-mod numbers;
 
 use encoder::Answer;
 use encoder_env::EncoderEnv;
 use encoder_read::opened;
-use fields::FieldAt;
+use job_fields::fields;
+use job_fields::fields::FieldAt;
 ghost use mathlib.Core.Path.{_≡_};
 ghost use lib.IntN.{pos};
 ghost use Rattle.encoder_answer.specs.Outcome.{Answers};
-ghost use Rattle.job_file.specs.Fields.{field};
+ghost use Rattle.job_fields.specs.Fields.{field};
 ghost use Rattle.job_file.specs.Run.{field-outcome, job-run, run-file, state};
 
 // The field refused and its number, or the number of fields and 0; the job that the accepted fields left.

@@ -3,9 +3,9 @@ use Prim.Native.Nat.{_-_, _≤_}
 use lib.ListN.{length}
 use mathlib.Core.Path.{_∙_, _≡_, ap, refl, sym}
 use native.Mathlib.Omega.{arith}
+use Rattle.job_fields.proofs.Places.{field-within}
 use Rattle.job_file.specs.Run.{job-run, run-file}
 use Rattle.job_file.specs.declared.JobAnswer.{JobAnswer}
-use Rattle.job_file.proofs.Places.{field-within}
 use Rattle.job_file.proofs.Running.{Going, field-accepted, field-broken, field-refused, going-start, none-first, none-later, too-long}
 use borrow.Author.Needs.{needs}
 use Rattle.job_file.proofs.run.Statement.{statement}

@@ -5,9 +5,9 @@ use lib.Dec.{eqb, leb}
 use lib.ListN.{length}
 use mathlib.Core.Bool.{and-eq-true-iff}
 use mathlib.Core.Path.{_∙_}
-use Rattle.job_file.specs.Fields.{right-length}
-use Rattle.job_file.proofs.Called.{open-called, tag-6, tag-called}
-use Rattle.job_file.proofs.Places.{at-tag}
+use Rattle.job_fields.specs.Fields.{right-length}
+use Rattle.job_fields.proofs.Places.{at-tag, tag-6}
+use Rattle.job_file.proofs.Called.{open-called, tag-called}
 use borrow.Author.Needs.{needs}
 use Rattle.job_file.proofs.calls.call.Statement.{statement}
 use Rattle.job_file.proofs.calls.call.Tie as tie

@@ -1,5 +1,5 @@
 -- `job_file::calls::open` meets its contract.
-use Rattle.job_file.specs.Fields.{switches-in}
+use Rattle.job_file.specs.Calls.{switches-in}
 use borrow.Author.Needs.{needs}
 use Rattle.job_file.proofs.calls.open.Statement.{statement}
 use Rattle.job_file.proofs.calls.open.Tie as tie
