@@ -8,18 +8,20 @@ use libc::STDIN_FILENO;
 use libc::STDOUT_FILENO;
 use lines::Line;
 use lines::Word;
-use script::Next;
+use script_calls::Next;
+use script_calls::bad;
+use script_calls::good;
 
 // The greatest height that the call of a line reaches on this job.
 fn height(word: Word, nums: &[i64], env: EncoderEnv, lits: usize, ends: usize) -> u32 {
     if lines::is_word(word, b"linear") {
         let mut terms = [0i32; 4096];
-        let s = script::sum_of(nums, &mut terms);
+        let s = script_calls::sum_of(nums, &mut terms);
         let n = s.count;
         return heights::sum_height(env, lits, ends, s.op, s.constant, &terms[..n]);
     }
     if lines::is_word(word, b"mul") {
-        let p = script::product_of(nums);
+        let p = script_calls::product_of(nums);
         return heights::product_height(env, lits, ends, p.x, p.y, p.m);
     }
     0
@@ -44,15 +46,13 @@ fn are_lengths(nums: &[i64]) -> bool {
 // A line with this word and these integers.
 fn answer(word: Word, nums: &[i64], env: EncoderEnv, lits: &mut [u32], ends: &mut [u32]) -> Next {
     if lines::is_word(word, b"stores") {
-        return Next {
-            env,
-            good: are_lengths(nums),
-            status: 0,
-            value: 0,
-        };
+        if are_lengths(nums) {
+            return good(env);
+        }
+        return bad(env);
     }
     let most = height(word, nums, env, lits.len(), ends.len());
-    let next = script::call(word, nums, env, lits, ends);
+    let next = script_calls::call(word, nums, env, lits, ends);
     if next.good {
         show(next.status, most);
     }
@@ -72,12 +72,7 @@ fn end_line(
     let numbers = whole.numbers;
     let n = numbers.count;
     if !numbers.good {
-        return Next {
-            env,
-            good: false,
-            status: 0,
-            value: 0,
-        };
+        return bad(env);
     }
     answer(word, &nums[..n], env, lits, ends)
 }

@@ -7,18 +7,14 @@
 //   show                    prints the job and the lent stores
 // A call prints `STATUS VALUE VARIABLES CLAUSES LITERALS`, an accepted `clause` also ` :` and its literals. A line that cannot be read
 // prints `bad line N` and ends the run; an empty line is passed over.
-mod calls;
 mod print;
-mod rules;
+mod words;
 
-pub use calls::Next;
-pub use calls::call;
 use encoder_env::EncoderEnv;
 use lines::Line;
 use lines::Unsigned;
 use lines::Word;
-pub use rules::product_of;
-pub use rules::sum_of;
+use script_calls::Next;
 ghost use mathlib.Core.Path.{_≡_};
 ghost use Prim.Native.Nat.{_≤_};
 ghost use Rattle.script.specs.Run.{Lent};
@@ -36,7 +32,7 @@ pub struct Run {
 }
 
 // The run after a line that left this job.
-fn with_job(run: Run, next: calls::Next) -> Run
+fn with_job(run: Run, next: Next) -> Run
     ensures { λ r. ⌜ (r .lits ≡ run .lits) × (r .ends ≡ run .ends) ⌝ }
 {
     let env = next.env;
@@ -149,7 +145,7 @@ fn answer(word: Word, nums: &[i64], run: Run, lits: &mut [u32], ends: &mut [u32]
     let l = run.lits;
     let e = run.ends;
     let env = run.env;
-    let next = calls::answer(word, nums, env, &mut lits[..l], &mut ends[..e]);
+    let next = words::answer(word, nums, env, &mut lits[..l], &mut ends[..e]);
     with_job(run, next)
 }
 

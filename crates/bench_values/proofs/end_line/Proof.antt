@@ -9,6 +9,9 @@ use Rattle.bench_values.proofs.end_line.Tie as tie
 line-whole-requires : tie.Need-line-whole-requires
 line-whole-requires c κs = search needs
 
+bad-requires : tie.Need-bad-requires
+bad-requires c κs = search needs
+
 same-length : tie.Need-same-length
 same-length c = search needs
 
@@ -41,6 +44,7 @@ end-line-spec =
     tie.close
     (tie.spec
     line-whole-requires
+    bad-requires
     same-length
     returns
     slice-reshare-prefix-answer

@@ -1,11 +1,11 @@
--- `script::calls::linear` meets its contract.
+-- `script_calls::linear` meets its contract.
 use lib.Seq.{length-take-le}
 use lib.ListN.{length}
 use Prim.Native.Nat.{_≤_}
 use mathlib.Core.Path.{sym}
 use borrow.Author.Needs.{needs}
-use Rattle.script.proofs.calls.linear.Statement.{statement}
-use Rattle.script.proofs.calls.linear.Tie as tie
+use Rattle.script_calls.proofs.linear.Statement.{statement}
+use Rattle.script_calls.proofs.linear.Tie as tie
 
 slice-aggregate-sum-of : tie.Need-slice-aggregate-sum-of
 slice-aggregate-sum-of c = search needs

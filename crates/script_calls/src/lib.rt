@@ -1,4 +1,6 @@
-// One line of a script: the call that its word names, on the job and the lent stores.
+// A line of a script as a call of the encoder, on the job and the lent stores: every call but `clause`. Nothing is printed.
+mod rules;
+
 use encoder::Answer;
 use encoder::encode_linear;
 use encoder::encode_mul;
@@ -6,6 +8,8 @@ use encoder_env::EncoderEnv;
 use lines::Signed;
 use lines::Unsigned;
 use lines::Word;
+pub use rules::product_of;
+pub use rules::sum_of;
 use sat::Lit;
 
 // The job after a line, whether the line could be read, and what a call answered.
@@ -16,7 +20,8 @@ pub struct Next {
     pub value: i32,
 }
 
-fn good(env: EncoderEnv) -> Next {
+// A line that was read, with no answer of a call.
+pub fn good(env: EncoderEnv) -> Next {
     Next {
         env,
         good: true,
@@ -25,7 +30,8 @@ fn good(env: EncoderEnv) -> Next {
     }
 }
 
-fn bad(env: EncoderEnv) -> Next {
+// A line that cannot be read: the job stays.
+pub fn bad(env: EncoderEnv) -> Next {
     Next {
         env,
         good: false,
@@ -34,7 +40,7 @@ fn bad(env: EncoderEnv) -> Next {
     }
 }
 
-// The answer's job is kept.
+// A call's answer, with the job after it.
 fn answered(a: Answer) -> Next {
     let env = a.env;
     Next {
@@ -103,7 +109,7 @@ fn binary(nums: &[i64], env: EncoderEnv, lits: &mut [u32], ends: &mut [u32]) -> 
 // `linear OP CONSTANT [SETTING COEFFICIENT]..`
 fn linear(nums: &[i64], env: EncoderEnv, lits: &mut [u32], ends: &mut [u32]) -> Next {
     let mut terms = [0i32; 4096];
-    let s = super::rules::sum_of(nums, &mut terms);
+    let s = rules::sum_of(nums, &mut terms);
     if !s.good {
         return bad(env);
     }
@@ -113,7 +119,7 @@ fn linear(nums: &[i64], env: EncoderEnv, lits: &mut [u32], ends: &mut [u32]) -> 
 
 // `mul X Y M`
 fn mul(nums: &[i64], env: EncoderEnv, lits: &mut [u32], ends: &mut [u32]) -> Next {
-    let p = super::rules::product_of(nums);
+    let p = rules::product_of(nums);
     if !p.good {
         return bad(env);
     }
@@ -121,7 +127,7 @@ fn mul(nums: &[i64], env: EncoderEnv, lits: &mut [u32], ends: &mut [u32]) -> Nex
 }
 
 // `read SETTING BYTE..`
-fn read(nums: &[i64], env: EncoderEnv, lits: &[u32], ends: &[u32]) -> Next {
+pub fn read(nums: &[i64], env: EncoderEnv, lits: &[u32], ends: &[u32]) -> Next {
     if nums.len() == 0 {
         return bad(env);
     }
@@ -139,67 +145,7 @@ fn read(nums: &[i64], env: EncoderEnv, lits: &[u32], ends: &[u32]) -> Next {
     answered(encoder::get_int_value(env, lits, ends, x, &bytes[..m]))
 }
 
-// `clause K`
-fn clause(nums: &[i64], env: EncoderEnv, lits: &[u32], ends: &[u32]) -> Next {
-    if nums.len() != 1 {
-        return bad(env);
-    }
-    let Unsigned::Value(k) = lines::unsigned_at(nums, 0) else {
-        return bad(env);
-    };
-    let mut status: u32 = 0;
-    let part = encoder::clause(env, lits, ends, k, &mut status);
-    super::print::answer(status, 0, env);
-    if status == 0 {
-        super::print::text(b" :");
-        super::print::entries(part);
-    }
-    super::print::text(b"\n");
-    good(env)
-}
-
-// `job ..`
-fn job(nums: &[i64], env: EncoderEnv) -> Next {
-    if script_state::is_job(nums) {
-        return good(script_state::job_of(nums));
-    }
-    bad(env)
-}
-
-// `lits I X`, `ends I X`
-fn entry(nums: &[i64], env: EncoderEnv, store: &mut [u32]) -> Next {
-    if nums.len() != 2 {
-        return bad(env);
-    }
-    let Unsigned::Value(i) = lines::unsigned_at(nums, 0) else {
-        return bad(env);
-    };
-    let Unsigned::Value(x) = lines::unsigned_at(nums, 1) else {
-        return bad(env);
-    };
-    let at = i as usize;
-    if at >= store.len() {
-        return bad(env);
-    }
-    store[at] = x;
-    good(env)
-}
-
-// `show`
-fn show(nums: &[i64], env: EncoderEnv, lits: &[u32], ends: &[u32]) -> Next {
-    if nums.len() != 0 {
-        return bad(env);
-    }
-    super::print::job(env);
-    super::print::text(b"lits");
-    super::print::entries(lits);
-    super::print::text(b"\nends");
-    super::print::entries(ends);
-    super::print::text(b"\n");
-    good(env)
-}
-
-// A word that opens a job, or adds a setting or a rule: nothing is printed.
+// A word that opens a job, or adds a setting or a rule.
 pub fn call(word: Word, nums: &[i64], env: EncoderEnv, lits: &mut [u32], ends: &mut [u32]) -> Next {
     if lines::is_word(word, b"open") {
         return open(nums, env, lits, ends);
@@ -220,43 +166,4 @@ pub fn call(word: Word, nums: &[i64], env: EncoderEnv, lits: &mut [u32], ends: &
         return mul(nums, env, lits, ends);
     }
     bad(env)
-}
-
-// The answer of a call is printed.
-fn printed(next: Next) -> Next {
-    let env = next.env;
-    if next.good {
-        super::print::answer(next.status, next.value, env);
-        super::print::text(b"\n");
-    }
-    next
-}
-
-// Every word but `stores`.
-pub fn answer(
-    word: Word,
-    nums: &[i64],
-    env: EncoderEnv,
-    lits: &mut [u32],
-    ends: &mut [u32],
-) -> Next {
-    if lines::is_word(word, b"read") {
-        return printed(read(nums, env, lits, ends));
-    }
-    if lines::is_word(word, b"clause") {
-        return clause(nums, env, lits, ends);
-    }
-    if lines::is_word(word, b"job") {
-        return job(nums, env);
-    }
-    if lines::is_word(word, b"lits") {
-        return entry(nums, env, lits);
-    }
-    if lines::is_word(word, b"ends") {
-        return entry(nums, env, ends);
-    }
-    if lines::is_word(word, b"show") {
-        return show(nums, env, lits, ends);
-    }
-    printed(call(word, nums, env, lits, ends))
 }

@@ -1,12 +1,12 @@
--- `script::calls::read` meets its contract.
+-- `script_calls::read` meets its contract.
 use lib.Seq.{length-take-le}
 use lib.ListN.{length}
 use denote.Ref.{now}
 use Prim.Native.Nat.{_≤_, _-_}
 use mathlib.Core.Path.{sym}
 use borrow.Author.Needs.{needs}
-use Rattle.script.proofs.calls.read.Statement.{statement}
-use Rattle.script.proofs.calls.read.Tie as tie
+use Rattle.script_calls.proofs.read.Statement.{statement}
+use Rattle.script_calls.proofs.read.Tie as tie
 
 bad-requires : tie.Need-bad-requires
 bad-requires c κs = search needs

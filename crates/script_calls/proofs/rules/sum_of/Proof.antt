@@ -1,7 +1,7 @@
--- `script::rules::sum_of` meets its contract.
+-- `script_calls::rules::sum_of` meets its contract.
 use borrow.Author.Needs.{needs}
-use Rattle.script.proofs.rules.sum_of.Statement.{statement}
-use Rattle.script.proofs.rules.sum_of.Tie as tie
+use Rattle.script_calls.proofs.rules.sum_of.Statement.{statement}
+use Rattle.script_calls.proofs.rules.sum_of.Tie as tie
 
 returns : tie.Need-returns
 returns c = search needs

@@ -1,12 +1,12 @@
--- `script::calls::list` meets its contract.
+-- `script_calls::list` meets its contract.
 use lib.Seq.{length-take-le}
 use lib.ListN.{length}
 use denote.Ref.{now}
 use Prim.Native.Nat.{_≤_}
 use mathlib.Core.Path.{sym}
 use borrow.Author.Needs.{needs}
-use Rattle.script.proofs.calls.list.Statement.{statement}
-use Rattle.script.proofs.calls.list.Tie as tie
+use Rattle.script_calls.proofs.list.Statement.{statement}
+use Rattle.script_calls.proofs.list.Tie as tie
 
 bad-requires : tie.Need-bad-requires
 bad-requires c κs = search needs
