@@ -80,7 +80,7 @@ pub gathered-none : {cols : List (List Lit)} {counts : List ℕ} (at : ℕ) → 
     → counts ≡ replicate 32 0 → Gathered (384 * at) cols counts
 gathered-none at a f e = rw e (record { arrays = a; few = few-more (replicate 32 0) (omega arith) f })
 
-pub gathered-more : {cols cols₁ : List (List Lit)} {counts counts₁ : List ℕ} {f : Grid → Grid} (at end : ℕ) → at < end
-    → Gathered (384 * at) cols counts → Pushed 384 cols counts f cols₁ counts₁ → Gathered (384 * end) cols₁ counts₁
-gathered-more {counts₁ = counts₁} at end h g p =
+pub gathered-more : {cols cols₁ : List (List Lit)} {counts counts₁ : List ℕ} {f : Grid → Grid} {k : ℕ} → k ≤ 384 → (at end : ℕ) → at < end
+    → Gathered (384 * at) cols counts → Pushed k cols counts f cols₁ counts₁ → Gathered (384 * end) cols₁ counts₁
+gathered-more {counts₁ = counts₁} l at end h g p =
     record { arrays = p .arrays; few = few-more counts₁ (omega arith) (p .few (384 * at) (g .few)) }

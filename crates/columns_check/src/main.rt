@@ -238,7 +238,7 @@ fn gather(nums: &[i64], from: usize, counts: &mut [u32; 32]) -> [[Lit; 12]; 32]
     while at < nums.len() {
         let r = read_row(nums, at);
         let lits = r.lits;
-        let next = log_gather::push_scaled(cols, counts, lits, r.len, r.coef, 12);
+        let next = log_gather::push_scaled(cols, counts, lits, r.len, r.coef, 0, 12);
         cols = next;
         at = r.end;
     }

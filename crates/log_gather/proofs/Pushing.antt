@@ -2,11 +2,11 @@
 use mathlib.Core.Bool.{cond}
 use lib.Dec.{eqb, lit<}
 use borrow.Author.Tests.{eq-eqb, ne-eqb}
-use mathlib.Core.Path.{_≡_, refl, ap, sym, _∙_}
+use mathlib.Core.Path.{_≡_, refl, ap, ap₂, sym, _∙_}
 use mathlib.Core.List.{List, [], _∷_, _++_, map, map-append}
 use mathlib.Core.Logic.{_⊎_, inl, inr, ⊎-elim}
 use Prim.Native.Nat.{ℕ, zero, suc, _+_, _-_, _*_, _/_, _%_, _^_, _≤_, _<_}
-use native.Mathlib.Nat.{not-suc-le-zero, sub-zero}
+use native.Mathlib.Nat.{add-zero, mul-zero, not-suc-le-zero, sub-zero}
 use native.Mathlib.Numerals.{add-one, sub-one}
 use native.Mathlib.Omega.{arith}
 use lib.ListN.{length, getD, set, take, replicate, length-set, length-append, length-map, length-take}
@@ -202,52 +202,48 @@ pushed-start cols counts o z =
     }
 
 -- a bit of the coefficient
-pub pushed-bit : {n : ℕ} {cols cols₁ : List (List Lit)} {counts counts₁ : List ℕ} (k : ℕ) (f : Grid → Grid) → n ≤ 32 → k % 2 ≡ 1
-    → Pushed n cols counts f cols₁ counts₁ → Pushed 32 cols counts (λ g. cond (eqb (k % 2) 1) (f g) g) cols₁ counts₁
-pushed-bit k f h e a =
-    record {
-      arrays = a .arrays;
-      few = λ m b i. let r = a .few m b i in omega arith;
-      holds = λ g q. rw (eq-eqb (k % 2) 1 e) (a .holds g q);
-    }
+pub pushed-bit : {n : ℕ} {cols cols₁ : List (List Lit)} {counts counts₁ : List ℕ} (k : ℕ) (f : Grid → Grid) → k % 2 ≡ 1
+    → Pushed n cols counts f cols₁ counts₁ → Pushed n cols counts (λ g. cond (eqb (k % 2) 1) (f g) g) cols₁ counts₁
+pushed-bit k f e a = record { arrays = a .arrays; few = a .few; holds = λ g q. rw (eq-eqb (k % 2) 1 e) (a .holds g q) }
 
-pub pushed-no-bit : (cols : List (List Lit)) (counts : List ℕ) (k : ℕ) (f : Grid → Grid) → (k % 2 ≡ 1 → ⊥) → Arrays cols counts
-    → Pushed 32 cols counts (λ g. cond (eqb (k % 2) 1) (f g) g) cols counts
+pub pushed-no-bit : {n : ℕ} (cols : List (List Lit)) (counts : List ℕ) (k : ℕ) (f : Grid → Grid) → (k % 2 ≡ 1 → ⊥) → Arrays cols counts
+    → Pushed n cols counts (λ g. cond (eqb (k % 2) 1) (f g) g) cols counts
 pushed-no-bit cols counts k f e z =
     record { arrays = z; few = λ m b i. let r = b i in omega arith; holds = λ g q. rw (ne-eqb (k % 2) 1 e) q }
 
--- the bits so far, of f: what was pushed, after which those left give the whole
-pub record Scaling (f : ℕ) (ls : List ℕ) (coef : ℕ) (cols₀ : List (List Lit)) (counts₀ : List ℕ) (cols : List (List Lit)) (counts : List ℕ) (k o : ℕ) : Type 0 where
-  pub within : o ≤ f
+-- i of the f bits so far, for n literals from column o on: what was pushed, after which those left give the whole
+pub record Scaling (n f o : ℕ) (ls : List ℕ) (coef : ℕ) (cols₀ : List (List Lit)) (counts₀ : List ℕ) (cols : List (List Lit)) (counts : List ℕ) (k i : ℕ) : Type 0 where
+  pub within : i ≤ f
   pub so-far : Grid → Grid
-  pub pushed : Pushed (32 * o) cols₀ counts₀ so-far cols counts
-  pub same : (g : Grid) → push-scaled f coef 0 ls g ≡ push-scaled (f - o) k o ls (so-far g)
+  pub pushed : Pushed (n * i) cols₀ counts₀ so-far cols counts
+  pub same : (g : Grid) → push-scaled f coef o ls g ≡ push-scaled (f - i) k (o + i) ls (so-far g)
 
-pub scaling-start : (f : ℕ) (ls : List ℕ) (coef : ℕ) (cols : List (List Lit)) (counts : List ℕ) → Arrays cols counts → Scaling f ls coef cols counts cols counts coef 0
-scaling-start f ls coef cols counts z =
-    record { within = omega arith; so-far = λ g. g; pushed = pushed-none (λ g. g) (λ g. refl) z; same = λ g. rw (sub-zero f) }
+pub scaling-start : (n f o : ℕ) (ls : List ℕ) (coef : ℕ) (cols : List (List Lit)) (counts : List ℕ) → Arrays cols counts → Scaling n f o ls coef cols counts cols counts coef 0
+scaling-start n f o ls coef cols counts z =
+    record { within = omega arith; so-far = λ g. g; pushed = rw (mul-zero n) (pushed-none (λ g. g) (λ g. refl) z); same = λ g. rw (sub-zero f, add-zero o) }
 
-module _ {f : ℕ} {ls : List ℕ} {coef : ℕ} {cols₀ : List (List Lit)} {counts₀ : List ℕ} {cols : List (List Lit)} {counts : List ℕ} {k o : ℕ} (s : Scaling f ls coef cols₀ counts₀ cols counts k o) where
-  pub scaling-turn : o < f → (cols₁ : List (List Lit)) (counts₁ : List ℕ) → Pushed 32 cols counts (λ g. cond (eqb (k % 2) 1) (push-value o ls g) g) cols₁ counts₁
-      → Scaling f ls coef cols₀ counts₀ cols₁ counts₁ (k / 2) (o + 1)
+module _ {n f o : ℕ} {ls : List ℕ} {coef : ℕ} {cols₀ : List (List Lit)} {counts₀ : List ℕ} {cols : List (List Lit)} {counts : List ℕ} {k i : ℕ} (s : Scaling n f o ls coef cols₀ counts₀ cols counts k i) where
+  pub scaling-turn : i < f → (cols₁ : List (List Lit)) (counts₁ : List ℕ) → Pushed n cols counts (λ g. cond (eqb (k % 2) 1) (push-value (o + i) ls g) g) cols₁ counts₁
+      → Scaling n f o ls coef cols₀ counts₀ cols₁ counts₁ (k / 2) (i + 1)
   scaling-turn h cols₁ counts₁ a =
-      let next : Grid → Grid = λ g. cond (eqb (k % 2) 1) (push-value o ls (s .so-far g)) (s .so-far g) in
-      let n : 32 * o + 32 ≡ 32 * (o + 1) = omega arith in
-      let j : f - o - 1 ≡ f - (o + 1) = omega arith in
+      let next : Grid → Grid = λ g. cond (eqb (k % 2) 1) (push-value (o + i) ls (s .so-far g)) (s .so-far g) in
+      let m : n * i + n ≡ n * (i + 1) = omega arith in
+      let j : f - i - 1 ≡ f - (i + 1) = omega arith in
+      let w : o + i + 1 ≡ o + (i + 1) = omega arith in
       record {
         within = omega arith;
         so-far = next;
-        pushed = rw (← n) (pushed-then next (s .so-far) (λ g. cond (eqb (k % 2) 1) (push-value o ls g) g) (λ g. refl) (s .pushed) a);
-        same = λ g. s .same g ∙ scaled-step (f - o) k o ls (s .so-far g) (omega arith) ∙ ap (λ (x : ℕ). push-scaled x (k / 2) (o + 1) ls (next g)) j;
+        pushed = rw (← m) (pushed-then next (s .so-far) (λ g. cond (eqb (k % 2) 1) (push-value (o + i) ls g) g) (λ g. refl) (s .pushed) a);
+        same = λ g. s .same g ∙ scaled-step (f - i) k (o + i) ls (s .so-far g) (omega arith) ∙ ap₂ (λ (x y : ℕ). push-scaled x (k / 2) y ls (next g)) j w;
       }
 
-  pub scaling-end : f ≤ o → f ≤ 12 → Pushed 384 cols₀ counts₀ (push-scaled f coef 0 ls) cols counts
-  scaling-end h l =
-      let w = s .within in
+  pub scaling-end : f ≤ i → Pushed (n * f) cols₀ counts₀ (push-scaled f coef o ls) cols counts
+  scaling-end h =
+      let e : i ≡ f = omega (arith, s .within) in
       record {
         arrays = s .pushed .arrays;
-        few = λ m b i. let r = s .pushed .few m b i in omega arith;
-        holds = λ g q. rw (s .same g ∙ scaled-end (f - o) k o ls (s .so-far g) (omega arith)) (s .pushed .holds g q);
+        few = rw e at (s .pushed .few);
+        holds = λ g q. rw (s .same g ∙ scaled-end (f - i) k (o + i) ls (s .so-far g) (omega arith)) (s .pushed .holds g q);
       }
 
 -- No literals yet ----------------------------------------------------------------------------------------------------

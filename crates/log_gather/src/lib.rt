@@ -4,66 +4,49 @@ ghost use mathlib.Core.Bool.{cond};
 ghost use mathlib.Core.List.{[], map};
 ghost use lib.Dec.{eqb};
 ghost use lib.ListN.{replicate};
-ghost use Prim.Native.Nat.{max, _+_, _%_, _^_, _≤_, _<_};
+ghost use Prim.Native.Nat.{max, _+_, _*_, _%_, _^_, _≤_, _<_};
 ghost use Rattle.arithmetic.specs.Bits.{shl};
 ghost use Rattle.sat.specs.Lit.{neg};
 ghost use Rattle.log_adder.specs.ColumnInfo.{AllLow};
-ghost use Rattle.log_encoding.specs.Gather.{push-scaled, push-value};
+ghost use Rattle.log_encoding.specs.Gather.{push-scaled};
 ghost use Rattle.log_gather.specs.Arrays.{AllSmall, Arrays, Few, Holds, Pushed, widths};
 ghost use Rattle.sat.specs.LitArray.{first-lits};
 use sat::Lit;
 
-// Literal j of the first n at the end of column o + j.
-pub fn push_value(
-    cols: [[Lit; 12]; 32],
-    counts: &mut [u32; 32],
-    lits: [Lit; 32],
-    n: usize,
-    o: usize,
-) -> [[Lit; 12]; 32]
-    requires { ⌜ (o + n ≤ 32) × AllLow lits ⌝ }
-    requires { ⌜ Arrays cols (now counts) × Few 2147482000 (now counts) ⌝ }
-    ensures { λ r. ⌜ Pushed n cols (now (counts .entry)) (push-value o (first-lits lits n)) r (now (counts .exit)) ⌝ }
-{
-    let mut out = cols;
-    let mut j: usize = 0;
-    while j < n {
-        let l = lits[j];
-        let w = o + j;
-        let at = counts[w];
-        counts[w] = at + 1;
-        if at < 12 {
-            out[w][at as usize] = l;
-        }
-        j += 1;
-    }
-    out
-}
-
-// The first n literals by weight, once for each of the coefficient's bits: eight in a sum, twelve in a product with offsets. What they
-// can come to has at most 32 bits.
+// The first n literals by weight from column `from` on, once for each of the coefficient's bits: eight in a sum, twelve in a product with
+// offsets, one in a row of a product. What they can come to has at most 32 bits.
 pub fn push_scaled(
     cols: [[Lit; 12]; 32],
     counts: &mut [u32; 32],
     lits: [Lit; 32],
     n: usize,
     coef: u32,
+    from: usize,
     steps: usize,
 ) -> [[Lit; 12]; 32]
-    requires { ⌜ (steps ≤ 12) × (shl n coef < 2 ^ 32) × AllLow lits ⌝ }
+    requires { ⌜ (steps ≤ 12) × (shl (from + n) coef < 2 ^ 32) × AllLow lits ⌝ }
     requires { ⌜ Arrays cols (now counts) × Few 2147480000 (now counts) ⌝ }
-    ensures { λ r. ⌜ Pushed 384 cols (now (counts .entry)) (push-scaled steps coef 0 (first-lits lits n)) r (now (counts .exit)) ⌝ }
+    ensures { λ r. ⌜ Pushed (n * steps) cols (now (counts .entry)) (push-scaled steps coef from (first-lits lits n)) r (now (counts .exit)) ⌝ }
 {
     let mut out = cols;
     let mut k = coef;
-    let mut o: usize = 0;
-    while o < steps {
+    let mut s: usize = 0;
+    while s < steps {
         if k % 2 == 1 {
-            let next = push_value(out, counts, lits, n, o);
-            out = next;
+            let mut j: usize = 0;
+            while j < n {
+                let l = lits[j];
+                let w = from + s + j;
+                let at = counts[w];
+                counts[w] = at + 1;
+                if at < 12 {
+                    out[w][at as usize] = l;
+                }
+                j += 1;
+            }
         }
         k = k / 2;
-        o += 1;
+        s += 1;
     }
     out
 }

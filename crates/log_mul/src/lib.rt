@@ -21,7 +21,7 @@ use log_adder::greatest_height;
 use log_adder::log_encoding_adder;
 use log_gather::larger;
 use log_gather::no_columns;
-use log_gather::push_value;
+use log_gather::push_scaled;
 use log_linear::Bits;
 use log_linear::RuleCounts;
 use log_linear::add_three;
@@ -136,7 +136,7 @@ fn gather_rows(x: usize, y: usize, vars: u32, counts: &mut [u32; 32]) -> [[Lit; 
     let mut i: usize = 0;
     while i < x {
         let row = consecutive(v, y);
-        let next = push_value(cols, counts, row, y, i);
+        let next = push_scaled(cols, counts, row, y, 1, i, 1);
         cols = next;
         v += y as u32;
         i += 1;

@@ -3,7 +3,7 @@ use mathlib.Core.Path.{_≡_, refl, ap, sym, _∙_}
 use mathlib.Core.Bool.{Bool, Bool·beq, cond, true, false}
 use mathlib.Core.List.{List, [], _∷_}
 use Prim.Native.Nat.{ℕ, zero, suc, _+_, _-_, _*_, _≤_, _<_}
-use native.Mathlib.Nat.{mul-one, mul-suc}
+use native.Mathlib.Nat.{mul-le-mul-left, mul-one, mul-suc}
 use native.Mathlib.Omega.{arith}
 use lib.ListN.{length, drop, getD}
 use Rattle.arithmetic.specs.Bits.{shl}
@@ -26,10 +26,13 @@ use Rattle.log_terms.specs.declared.Weighted.{Weighted as WeightedLits}
 pub all-low : (ls : List Lit) → AllSmall ls → AllLow ls
 all-low ls h k = let r = h k in omega arith
 
--- the same literals pushed
-pub pushed-as : {k : ℕ} {cols cols₁ : List (List Lit)} {counts counts₁ : List ℕ} (f f₁ : Grid → Grid) → ((g : Grid) → f g ≡ f₁ g)
-    → Pushed k cols counts f cols₁ counts₁ → Pushed k cols counts f₁ cols₁ counts₁
-pushed-as f f₁ e p = record { arrays = p .arrays; few = p .few; holds = λ g q. rw (← (e g)) (p .holds g q) }
+-- the literals of one term pushed
+pub pushed-as : {steps : ℕ} (t : WeightedLits) → TermFits steps t → steps ≤ 12
+    → {cols cols₁ : List (List Lit)} {counts counts₁ : List ℕ} (f f₁ : Grid → Grid) → ((g : Grid) → f g ≡ f₁ g)
+    → Pushed (t .len * steps) cols counts f cols₁ counts₁ → Pushed 384 cols counts f₁ cols₁ counts₁
+pushed-as t h l f f₁ e p =
+    let most = mul-le-mul-left (t .len) l in
+    record { arrays = p .arrays; few = λ m b i. omega (arith, p .few m b i, most, h .len); holds = λ g q. rw (← (e g)) (p .holds g q) }
 
 -- nothing pushed
 pub pushed-nothing : {cols : List (List Lit)} {counts : List ℕ} (k : ℕ) (f : Grid → Grid) → ((g : Grid) → f g ≡ g) → Arrays cols counts → Pushed k cols counts f cols counts

@@ -6,9 +6,7 @@ ghost use mathlib.Core.List.{[], _∷_};
 ghost use Prim.Native.Nat.{_-_, _*_, _≤_, _<_};
 ghost use lib.ListN.{length, replicate};
 ghost use Rattle.arithmetic.specs.Bits.{shl};
-ghost use Rattle.log_encoding.specs.Gather.{push-scaled};
 ghost use Rattle.log_gather.specs.Arrays.{Arrays, Few, Pushed, widths};
-ghost use Rattle.sat.specs.LitArray.{first-lits};
 ghost use Rattle.log_encoding.specs.Linear.{gather, gather-sign, negated-constant, positive-lits, push-scaled-some};
 ghost use Rattle.log_terms.specs.Gathered.{Gathered};
 ghost use Rattle.log_terms.specs.Terms.{TermFits, TermsFit, some-width, weighted-all, weighted-of};
@@ -26,26 +24,7 @@ pub struct Weighted {
     pub len: usize,
 }
 
-// Ne and Ge: a term in columns, if it is of that sign.
-fn push_term(
-    cols: [[Lit; 12]; 32],
-    counts: &mut [u32; 32],
-    t: Weighted,
-    sign: bool,
-    steps: usize,
-) -> [[Lit; 12]; 32]
-    requires { ⌜ (steps ≤ 12) × TermFits steps t ⌝ }
-    requires { ⌜ Arrays cols (now counts) × Few 2147480000 (now counts) ⌝ }
-    ensures { λ r. ⌜ Pushed 384 cols (now (counts .entry)) (λ g. cond (Bool·beq sign (t .negative)) (push-scaled 12 (t .coef) 0 (first-lits (t .lits) (t .len)) g) g) r (now (counts .exit)) ⌝ }
-{
-    if sign == t.negative {
-        let lits = t.lits;
-        return push_scaled(cols, counts, lits, t.len, t.coef, steps);
-    }
-    cols
-}
-
-// The terms of one sign in columns.
+// Ne and Ge: the terms of one sign in columns.
 pub fn gather_sign(
     ts: [Weighted; 7],
     n: usize,
@@ -61,8 +40,11 @@ pub fn gather_sign(
     let mut i: usize = 0;
     while i < n {
         let t = ts[i];
-        let next = push_term(cols, counts, t, sign, steps);
-        cols = next;
+        if sign == t.negative {
+            let lits = t.lits;
+            let next = push_scaled(cols, counts, lits, t.len, t.coef, 0, steps);
+            cols = next;
+        }
         i += 1;
     }
     cols
@@ -110,9 +92,9 @@ fn push_eq_term(
     let lits = t.lits;
     if t.negative {
         let flipped = negate_all(lits, t.len);
-        return push_scaled(cols, counts, flipped, t.len, t.coef, steps);
+        return push_scaled(cols, counts, flipped, t.len, t.coef, 0, steps);
     }
-    push_scaled(cols, counts, lits, t.len, t.coef, steps)
+    push_scaled(cols, counts, lits, t.len, t.coef, 0, steps)
 }
 
 // Eq: the terms in columns.

@@ -9,7 +9,6 @@ use Rattle.clause_set.proofs.Adding.{add-append, fits-first, fits-then}
 use Rattle.mixed.specs.declared.LinearInfo.{LinearInfo}
 use Rattle.log_encoding.specs.Enumerate.{bounded}
 use Rattle.mixed.specs.Infos.{equated, info-term, infos-left, negated-info}
-use Rattle.mixed.proofs.Infos.{negated-left}
 
 module _ (ts : List LinearInfo) (n above below total base : ℕ) (at : Counts) where
   abbrev reached : Clauses
@@ -27,10 +26,7 @@ module _ (ts : List LinearInfo) (n above below total base : ℕ) (at : Counts) w
     reached-fits = fits-first reached (not-passed (map negated-info (infos-left ts n 0))) fits
 
     module _ (d e : List ℕ) {d₁ e₁ : List ℕ} (a₁ : Counts) (w : after d₁ e₁ a₁ ≡ add-clauses base reached (after d e at))
-        (us : List LinearInfo) (h : us ≡ map negated-info ts) where
-      negated : infos-left us n 0 ≡ map negated-info (infos-left ts n 0)
-      negated = ap (λ (vs : List LinearInfo). infos-left vs n 0) h ∙ negated-left ts n
-
+        (us : List LinearInfo) (negated : infos-left us n 0 ≡ map negated-info (infos-left ts n 0)) where
       pub not-passed-fits : Fits base a₁ (not-passed (infos-left us n 0))
       not-passed-fits = rw negated (fits-then reached (not-passed (map negated-info (infos-left ts n 0))) fits d e w)
 

@@ -110,19 +110,15 @@ negated-more (t ∷ ts) zero h = refl
 negated-more (t ∷ ts) (suc i) h = ap (λ (us : List LinearInfo). negated-info t ∷ us) (negated-more ts i (omega arith))
 
 -- and all of them
-pub negated-end : (ts : List LinearInfo) (i : ℕ) → length ts ≤ i → map negated-info (take i ts) ++ drop i ts ≡ map negated-info ts
-negated-end [] zero h = refl
-negated-end [] (suc i) h = refl
-negated-end (t ∷ ts) zero h = absurd (not-suc-le-zero h)
-negated-end (t ∷ ts) (suc i) h = ap (λ (us : List LinearInfo). negated-info t ∷ us) (negated-end ts i (omega arith))
-
-pub negated-small : (ts : List LinearInfo) → AllSmall ts → AllSmall (map negated-info ts)
-negated-small [] h k = h k
-negated-small (t ∷ ts) h zero = record { top = h zero .top }
-negated-small (t ∷ ts) h (suc k) = negated-small ts (λ (j : ℕ). h (suc j)) k
-
-pub negated-left : (ts : List LinearInfo) (n : ℕ) → infos-left (map negated-info ts) n 0 ≡ map negated-info (infos-left ts n 0)
+pub negated-left : (ts : List LinearInfo) (n : ℕ) → infos-left (map negated-info (take n ts) ++ drop n ts) n 0 ≡ map negated-info (infos-left ts n 0)
 negated-left [] zero = refl
 negated-left [] (suc n) = refl
 negated-left (t ∷ ts) zero = refl
 negated-left (t ∷ ts) (suc n) = ap (λ (us : List LinearInfo). negated-info t ∷ us) (negated-left ts n)
+
+pub negated-small : (ts : List LinearInfo) (n : ℕ) → AllSmall ts → AllSmall (map negated-info (take n ts) ++ drop n ts)
+negated-small [] zero h k = h k
+negated-small [] (suc n) h k = h k
+negated-small (t ∷ ts) zero h k = h k
+negated-small (t ∷ ts) (suc n) h zero = record { top = h zero .top }
+negated-small (t ∷ ts) (suc n) h (suc k) = negated-small ts n (λ (j : ℕ). h (suc j)) k

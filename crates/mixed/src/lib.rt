@@ -240,14 +240,14 @@ fn negated(t: LinearInfo) -> LinearInfo
     }
 }
 
-// The terms of minus a sum.
-fn negate_all(ts: [LinearInfo; 15]) -> [LinearInfo; 15]
-    requires { ⌜ AllSmall ts ⌝ }
-    ensures { λ r. ⌜ (r ≡ map negated-info ts) × AllSmall r ⌝ }
+// The first n terms, of minus their sum.
+fn negate_all(ts: [LinearInfo; 15], n: usize) -> [LinearInfo; 15]
+    requires { ⌜ AllSmall ts × (n ≤ 15) ⌝ }
+    ensures { λ r. ⌜ (infos-left r n 0 ≡ map negated-info (infos-left ts n 0)) × AllSmall r ⌝ }
 {
     let mut out = ts;
     let mut i: usize = 0;
-    while i < 15 {
+    while i < n {
         let t = out[i];
         let opposite = negated(t);
         out[i] = opposite;
@@ -274,6 +274,6 @@ pub fn encode_linear_eq_mixed_from_info(
     ensures { λ r. ⌜ after (now (lits .exit)) (now (ends .exit)) r ≡ add-clauses base (equated (infos-left ts n 0) above below total) (after (now (lits .entry)) (now (ends .entry)) at) ⌝ }
 {
     let up = encode_linear_ge_mixed_from_info(lits, ends, ts, n, above, below, base, at);
-    let down = negate_all(ts);
+    let down = negate_all(ts, n);
     encode_linear_ge_mixed_from_info(lits, ends, down, n, below + total, above, base, up)
 }

@@ -1,5 +1,6 @@
 -- `columns_check::gather` meets its contract.
 use Prim.Native.Nat.{_-_, _*_, _≤_}
+use native.Mathlib.Nat.{zero-add}
 use native.Mathlib.Omega.{arith}
 use lib.ListN.{length}
 use Rattle.log_gather.proofs.Steps.{shl-more}
@@ -33,7 +34,7 @@ push-scaled-requires c κs =
     let q = c .before .before .read-row .result in
     let r = c .before .before .read-row .ensures in
     let b = shl-more (q .len) 12 (q .coef) (r .len) in
-    ((omega arith, omega (arith, r .coef), r .low), (l .inv .1 .arrays, few-more (l .counts) (omega (arith, l .inv .0)) (l .inv .1 .few)))
+    ((omega arith, rw (zero-add (q .len)) (omega (arith, r .coef)), r .low), (l .inv .1 .arrays, few-more (l .counts) (omega (arith, l .inv .0)) (l .inv .1 .few)))
 
 loop-less : tie.Need-loop-less Inv-loop μ-loop
 loop-less c = search needs
@@ -42,7 +43,7 @@ loop-again : tie.Need-loop-again Inv-loop μ-loop
 loop-again c =
     let l = c .before .before .before .before .before .loop in
     let r = c .before .before .before .read-row in
-    (r .ensures .within, gathered-more (l .at) (r .result .end) (r .ensures .onward) (l .inv .1) (c .push-scaled .ensures))
+    (r .ensures .within, gathered-more (omega (arith, r .ensures .len)) (l .at) (r .result .end) (r .ensures .onward) (l .inv .1) (c .push-scaled .ensures))
 
 returns : tie.Need-returns Inv-loop μ-loop
 returns c =

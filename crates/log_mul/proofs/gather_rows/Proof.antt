@@ -1,7 +1,9 @@
 -- `log_mul::gather_rows` meets its contract.
-use Prim.Native.Nat.{_-_, _*_, _≤_}
+use Prim.Native.Nat.{_+_, _-_, _*_, _≤_}
+use native.Mathlib.Nat.{mul-one}
 use native.Mathlib.Omega.{arith}
 use Rattle.log_mul.proofs.RowColumns.{Gathering, gathering-end, gathering-few, gathering-start, gathering-turn}
+use Rattle.log_gather.proofs.Steps.{shl-more}
 use Rattle.log_mul.proofs.Rows.{gates-most}
 use borrow.Author.Needs.{needs}
 use Rattle.log_mul.proofs.gather_rows.Statement.{statement}
@@ -30,12 +32,13 @@ loop-holds c =
 consecutive-requires : tie.Need-consecutive-requires Inv-loop μ-loop
 consecutive-requires c κs = omega (arith, c .before .loop .inv .vars, gates (c .before), c .before .before .before .pre)
 
-push-value-requires : tie.Need-push-value-requires Inv-loop μ-loop
-push-value-requires c κs =
+push-scaled-requires : tie.Need-push-scaled-requires Inv-loop μ-loop
+push-scaled-requires c κs =
     let s = c .before .before .before .before .before in
     let l = c .before .before .before .loop in
     let h = c .before .consecutive .ensures in
-    ((omega (arith, c .before .before .loop-test .taken, s .pre), h .1), (l .inv .arrays, gathering-few (s .args .x) (s .args .y) (s .args .vars) (l .inv) (omega (arith, l .inv .within, s .pre)) (s .pre .1) 2147482000 (omega arith)))
+    let reach = shl-more (l .i + s .args .y) 24 1 (omega (arith, c .before .before .loop-test .taken, s .pre)) in
+    ((omega arith, omega (arith, reach), h .1), (l .inv .arrays, gathering-few (s .args .x) (s .args .y) (s .args .vars) (l .inv) (omega (arith, l .inv .within, s .pre)) (s .pre .1) 2147480000 (omega arith)))
 
 cast-v : tie.Need-cast-v Inv-loop μ-loop
 cast-v c = omega (arith, c .before .before .before .before .before .before .pre)
@@ -52,7 +55,7 @@ loop-less c = search needs
 loop-again : tie.Need-loop-again Inv-loop μ-loop
 loop-again c =
     let s = c .before .before .before .before .before .before in
-    gathering-turn (s .args .x) (s .args .y) (s .args .vars) (c .before .before .before .before .loop .inv) (c .before .before .before .loop-test .taken) _ _ _ (c .before .before .consecutive .ensures .0) (c .push-value .ensures)
+    gathering-turn (s .args .x) (s .args .y) (s .args .vars) (c .before .before .before .before .loop .inv) (c .before .before .before .loop-test .taken) _ _ _ (c .before .before .consecutive .ensures .0) (rw (mul-one (s .args .y)) at (c .push-scaled .ensures))
 
 returns : tie.Need-returns Inv-loop μ-loop
 returns c = let s = c .before .before .before in gathering-end (s .args .x) (s .args .y) (s .args .vars) (c .before .loop .inv) (c .loop-test .left) (s .pre .0) (s .pre .1)
@@ -66,7 +69,7 @@ gather-rows-spec =
     no-columns-requires
     loop-holds
     consecutive-requires
-    push-value-requires
+    push-scaled-requires
     cast-v
     add-v
     add-i

@@ -5,14 +5,17 @@ use Rattle.log_terms.proofs.gather_sign.Tie as tie
 use mathlib.Core.Path.{_≡_, ap, refl}
 use mathlib.Core.Bool.{Bool·beq, cond}
 use mathlib.Core.List.{List, [], _∷_}
+use mathlib.Core.Logic.{⊎-elim}
 use Prim.Native.Nat.{_-_, _≤_}
+use native.Mathlib.Nat.{zero-add}
 use native.Mathlib.Omega.{arith}
 use lib.ListN.{getD, length}
-use Rattle.log_encoding.specs.Gather.{push-scaled}
+use Rattle.log_encoding.specs.Gather.{Grid, push-scaled}
+use Rattle.log_gather.specs.Arrays.{Pushed}
 use Rattle.sat.specs.LitArray.{first-lits}
 use Rattle.log_encoding.specs.Linear.{Weighted, gather-sign}
 use Rattle.log_terms.specs.Terms.{no-term, weighted-all}
-use Rattle.log_terms.proofs.Gathering.{terms-next, terms-none, Gathering, empty-column, gathering-end, gathering-few, gathering-start, gathering-turn}
+use Rattle.log_terms.proofs.Gathering.{Gathering, all-low, empty-column, enough, pushed-as, pushed-nothing, terms-next, terms-none, gathering-end, gathering-few, gathering-start, gathering-turn}
 
 abbrev Inv-loop : tie.InvT-loop
 Inv-loop n sign steps counts₀ ts cols₀ i₀ counts cols i = Gathering (gather-sign sign) (weighted-all ts n) ([] ∷ []) cols counts i × (i ≤ n)
@@ -38,12 +41,16 @@ mul-t c = search needs
 array-copy-out-t : tie.Need-array-copy-out-t Inv-loop μ-loop
 array-copy-out-t c = search needs
 
-push-term-requires : tie.Need-push-term-requires Inv-loop μ-loop
-push-term-requires c κs =
-    let s = c .before .before .before .before .before in
-    let l = c .before .before .before .loop in
+push-scaled-requires : tie.Need-push-scaled-requires Inv-loop μ-loop
+push-scaled-requires c κs =
+    let s = c .before .before .before .before .before .before .before .before in
+    let l = c .before .before .before .before .before .before .loop in
     let f = s .pre .0 in
-    ((f .steps-fit, f .fits (l .i) (c .before .before .loop-test .taken)), (l .inv .0 .arrays, gathering-few (l .inv .0) (omega (arith, f .few, l .inv .1))))
+    let t = getD (s .args .t1) (l .i) no-term in
+    let h = f .fits (l .i) (c .before .before .before .before .before .loop-test .taken) in (
+      (f .steps-fit, rw (zero-add (t .len)) (omega (arith, h .reach)), all-low (t .lits) (h .small)),
+      (l .inv .0 .arrays, gathering-few (l .inv .0) (omega (arith, f .few, l .inv .1))),
+    )
 
 add-i : tie.Need-add-i Inv-loop μ-loop
 add-i c = search needs
@@ -57,11 +64,18 @@ loop-again c =
     let l = c .before .before .before .before .loop in
     let f = s .pre .0 in
     let t = getD (s .args .t1) (l .i) no-term in
-    let e = terms-next (s .args .t1) (s .args .n) (l .i) (omega (arith, terms-long s, f .few)) (c .before .before .before .loop-test .taken) in (
-      gathering-turn (l .inv .0) (λ g. cond (Bool·beq (s .args .sign) (t .negative)) (push-scaled 12 (t .coef) 0 (first-lits (t .lits) (t .len)) g) g)
-          (ap (λ (ps : List Weighted). gather-sign (s .args .sign) ps (l .inv .0 .left .grid)) e) (c .push-term .ensures),
-      omega (arith, c .before .before .before .loop-test .taken),
-    )
+    let go = c .before .before .before .loop-test .taken in
+    let step : Grid → Grid = λ g. cond (Bool·beq (s .args .sign) (t .negative)) (push-scaled 12 (t .coef) 0 (first-lits (t .lits) (t .len)) g) g in
+    let pushed : Pushed 384 (l .cols) (l .counts) step (c .if1 .cols) (c .if1 .counts) =
+    ⊎-elim
+    (λ v.
+    rw (v .4, v .5)
+    (pushed-as t (f .fits (l .i) go) (f .steps-fit) (push-scaled (s .args .steps) (t .coef) 0 (first-lits (t .lits) (t .len))) step
+    (λ g. rw (v .0 .taken) (enough t (f .fits (l .i) go) (f .steps-fit) (first-lits (t .lits) (t .len)) g)) (v .3 .ensures)))
+    (λ v. rw (v .1, v .2) (pushed-nothing 384 step (λ g. rw (v .0 .left)) (l .inv .0 .arrays)))
+    (c .if1 .came) in
+    let e = terms-next (s .args .t1) (s .args .n) (l .i) (omega (arith, terms-long s, f .few)) go in
+    (gathering-turn (l .inv .0) step (ap (λ (ps : List Weighted). gather-sign (s .args .sign) ps (l .inv .0 .left .grid)) e) pushed, omega (arith, go))
 
 returns : tie.Need-returns Inv-loop μ-loop
 returns c =
@@ -80,7 +94,7 @@ gather-sign-spec =
     loop-holds
     mul-t
     array-copy-out-t
-    push-term-requires
+    push-scaled-requires
     add-i
     loop-less
     loop-again

@@ -4,6 +4,7 @@ use Rattle.log_terms.proofs.push_eq_term.Tie as tie
 use mathlib.Core.Path.{_≡_, _∙_, ap, sym}
 use mathlib.Core.List.{List, map}
 use Prim.Native.Nat.{ℕ, _<_}
+use native.Mathlib.Nat.{zero-add}
 use native.Mathlib.Omega.{arith}
 use lib.ListN.{length}
 use Rattle.sat.specs.Lit.{neg}
@@ -30,7 +31,7 @@ push-scaled-requires : tie.Need-push-scaled-requires
 push-scaled-requires c κs =
     let s = c .before .before .before .before .before .before in
     let h = s .pre .0 .1 in
-    ((s .pre .0 .0, omega (arith, h .reach), c .before .negate-all .ensures .1), s .pre .1)
+    ((s .pre .0 .0, rw (zero-add (s .args .t .len)) (omega (arith, h .reach)), c .before .negate-all .ensures .1), s .pre .1)
 
 returns-2 : tie.Need-returns-2
 returns-2 c =
@@ -41,7 +42,7 @@ returns-2 c =
     let e = c .before .before .negate-all .ensures .0 ∙ sym p in
     let some = c .before .before .before .before .before .if1 .left in
     let h : 0 < length (positive-lits (weighted-of t)) = omega arith in
-    pushed-as (push-scaled (s .args .steps) (t .coef) 0 (first-lits (c .before .before .negate-all .result) (t .len))) _
+    pushed-as t (s .pre .0 .1) (s .pre .0 .0) (push-scaled (s .args .steps) (t .coef) 0 (first-lits (c .before .before .negate-all .result) (t .len))) _
     (λ g. enough t (s .pre .0 .1) (s .pre .0 .0) (first-lits (c .before .before .negate-all .result) (t .len)) g ∙ ap (λ (ls : List ℕ). push-scaled 12 (t .coef) 0 ls g) e
     ∙ some-pushed (t .coef) (positive-lits (weighted-of t)) g h) (c .push-scaled .ensures)
 
@@ -49,7 +50,7 @@ push-scaled-requires-2 : tie.Need-push-scaled-requires-2
 push-scaled-requires-2 c κs =
     let s = c .before .before .before .before .before in
     let h = s .pre .0 .1 in
-    ((s .pre .0 .0, omega (arith, h .reach), all-low (s .args .t .lits) (h .small)), s .pre .1)
+    ((s .pre .0 .0, rw (zero-add (s .args .t .len)) (omega (arith, h .reach)), all-low (s .args .t .lits) (h .small)), s .pre .1)
 
 returns-3 : tie.Need-returns-3
 returns-3 c =
@@ -59,7 +60,7 @@ returns-3 c =
     let p : first-lits (t .lits) (t .len) ≡ positive-lits (weighted-of t) = rw (c .before .before .if2 .left) in
     let some = c .before .before .before .before .if1 .left in
     let h : 0 < length (positive-lits (weighted-of t)) = omega arith in
-    pushed-as (push-scaled (s .args .steps) (t .coef) 0 (first-lits (t .lits) (t .len))) _
+    pushed-as t (s .pre .0 .1) (s .pre .0 .0) (push-scaled (s .args .steps) (t .coef) 0 (first-lits (t .lits) (t .len))) _
     (λ g. enough t (s .pre .0 .1) (s .pre .0 .0) (first-lits (t .lits) (t .len)) g ∙ ap (λ (ls : List ℕ). push-scaled 12 (t .coef) 0 ls g) p
     ∙ some-pushed (t .coef) (positive-lits (weighted-of t)) g h) (c .push-scaled2 .ensures)
 

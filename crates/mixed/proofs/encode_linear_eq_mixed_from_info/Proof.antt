@@ -11,7 +11,7 @@ encode-linear-ge-mixed-from-info-requires c κs =
     (s .pre .0, (s .pre .1 .0 .0, reached-fits (a .ts) (a .n) (a .above) (a .below) (a .total) (a .base) (a .at) (s .pre .1 .1)))
 
 negate-all-requires : tie.Need-negate-all-requires
-negate-all-requires c κs = c .before .before .before .before .before .before .before .before .before .pre .0
+negate-all-requires c κs = let s = c .before .before .before .before .before .before .before .before .before in (s .pre .0, s .pre .1 .0 .0)
 
 add-encode-linear-ge-mixed-from-info : tie.Need-add-encode-linear-ge-mixed-from-info
 add-encode-linear-ge-mixed-from-info c = search needs

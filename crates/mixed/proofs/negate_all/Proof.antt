@@ -8,15 +8,15 @@ use lib.ListN.{drop, getD, length, set, take}
 use borrow.Author.Needs.{needs}
 use Rattle.mixed.specs.declared.LinearInfo.{LinearInfo}
 use Rattle.mixed.specs.Infos.{negated-info, no-info}
-use Rattle.mixed.proofs.Infos.{negated-end, negated-more, negated-small}
+use Rattle.mixed.proofs.Infos.{negated-left, negated-more, negated-small}
 use Rattle.mixed.proofs.negate_all.Statement.{statement}
 use Rattle.mixed.proofs.negate_all.Tie as tie
 
 abbrev Inv-loop : tie.InvT-loop
-Inv-loop out₀ i₀ out i = (i ≤ 15) × (out ≡ map negated-info (take i out₀) ++ drop i out₀)
+Inv-loop n out₀ i₀ out i = (i ≤ n) × (out ≡ map negated-info (take i out₀) ++ drop i out₀)
 
 abbrev μ-loop : tie.MeasureT-loop
-μ-loop out₀ i₀ out i = 15 - i
+μ-loop n out₀ i₀ out i = n - i
 
 terms-long : (c : tie.Start Inv-loop μ-loop) → length (c .args .ts) ≡ 15
 terms-long c = c .good .0 .1 .0 .1
@@ -56,8 +56,9 @@ returns : tie.Need-returns Inv-loop μ-loop
 returns c =
     let s = c .before .before in
     let l = c .before .loop in
-    let all = l .inv .1 ∙ negated-end (s .args .ts) (l .i) (omega (arith, terms-long s)) in
-    (all, rw all (negated-small (s .args .ts) (s .pre)))
+    let e : l .i ≡ s .args .n = omega (arith, l .inv .0) in
+    let all = rw e at (l .inv .1) in
+    (rw all (negated-left (s .args .ts) (s .args .n)), rw all (negated-small (s .args .ts) (s .args .n) (s .pre .0)))
 
 pub negate-all-spec : {M : Type 1} → statement M
 negate-all-spec =
