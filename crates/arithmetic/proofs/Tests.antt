@@ -1,10 +1,10 @@
 -- Laws of Boolean tests, and equal tests from equivalent orders.
-use Prim.Native.Nat.{_≤_, ℕ}
+use Prim.Native.Nat.{_≤_, suc, zero, ℕ}
 use borrow.Author.Tests.{eq-eqb, eqb-false, eqb-true, le-leb, leb-false, leb-true, lt-leb, ne-eqb}
 use lib.Dec.{eqb, leb}
 use mathlib.Core.Bool.{Bool, So, _&&_, _||_, false, false≢true, true}
-use mathlib.Core.Logic.{_↔_}
-use mathlib.Core.Path.{_∙_, _≡_, refl, sym}
+use mathlib.Core.Logic.{_↔_, _⊎_, inl, inr, ⊎-elim}
+use mathlib.Core.Path.{_∙_, _≡_, ap, refl, sym}
 use native.Mathlib.Omega.{arith}
 
 pub leb-same : (a b c d : ℕ) → a ≤ b ↔ c ≤ d → leb a b ≡ leb c d
@@ -55,3 +55,10 @@ So-same e = (λ h. sym e ∙ h, λ h. e ∙ h)
 
 pub never : {A : Type 0} → So false → A
 never e = absurd (false≢true e)
+
+-- equal or not
+pub same-or : (a b : ℕ) → (a ≡ b) ⊎ (a ≡ b → ⊥)
+same-or zero zero = inl refl
+same-or zero (suc b) = inr (λ e. omega arith)
+same-or (suc a) zero = inr (λ e. omega arith)
+same-or (suc a) (suc b) = ⊎-elim (λ p. inl (ap suc p)) (λ f. inr (λ e. f (omega arith))) (same-or a b)

@@ -1,4 +1,5 @@
-// Signed numbers at the border of the encoder: a setting's offset, codes and values, and bit lengths. Inside, numbers are unsigned.
+// Signed numbers at the border of the encoder: a setting's offset, codes and values, the two parts of a number, and bit lengths. Inside,
+// numbers are unsigned.
 ghost use mathlib.Core.Path.{_≡_};
 ghost use Prim.Native.Nat.{_+_, _<_};
 ghost use lib.Signed.{_≤ℤ_};

@@ -149,3 +149,11 @@ pub fn evaluate(clause: &[u32], assignment: &[u8]) -> bool
     }
     false
 }
+
+// Whether the clause from `begin` to `end` of the literal store holds.
+pub fn evaluate_part(lits: &[u32], begin: usize, end: usize, assignment: &[u8]) -> bool
+    requires { ⌜ (begin ≤ end) × (end ≤ length (now lits)) ⌝ }
+    ensures { λ r. ⌜ r ≡ clause-holds (now (assignment .entry)) (part begin end (now (lits .entry))) ⌝ }
+{
+    evaluate(&lits[begin..end], assignment)
+}

@@ -1,7 +1,7 @@
 -- Reading terms and rows: what holds of those read so far.
 use mathlib.Core.Path.{_≡_, refl, ap, _∙_}
-use mathlib.Core.List.{List, [], _∷_, _++_, map}
-use Prim.Native.Nat.{ℕ, zero, suc, _+_, _-_, _*_, _≤_, _<_}
+use mathlib.Core.List.{List, [], _∷_, _++_, map, map-append}
+use Prim.Native.Nat.{ℕ, suc, _+_, _-_, _*_, _≤_, _<_}
 use native.Mathlib.Numerals.{add-one}
 use native.Mathlib.Omega.{arith}
 use lib.Dec.{lit<}
@@ -11,11 +11,12 @@ use Rattle.sat.specs.declared.Lit.{Lit}
 use Rattle.mixed.specs.declared.LinearInfo.{LinearInfo}
 use Rattle.log_encoding.specs.Enumerate.{bounded}
 use Rattle.log_encoding.specs.Terms.{Term}
-use Rattle.mixed.specs.Infos.{AllSmall, Small, info-term, infos-left, no-info, thresholds}
+use Rattle.mixed.proofs.Infos.{length-thresholds}
+use Rattle.mixed.specs.Infos.{AllSmall, Small, info-term, infos-left, no-info}
 use Rattle.log_encoding.proofs.Bound.{bounded-count, bounded-total, sizes}
 use Rattle.clause_set.specs.declared.Counts.{Counts}
 use Rattle.clause_set.specs.Stores.{Fits}
-use Rattle.log_adder.proofs.ColumnTerms.{every-replicate, every-set}
+use Rattle.sat.proofs.Every.{every-replicate, every-set}
 use Rattle.log_encoding.specs.Gather.{Grid}
 use Rattle.log_gather.specs.Arrays.{Arrays, Few, Pushed}
 use Rattle.columns_check.specs.declared.Terms.{Terms}
@@ -29,17 +30,9 @@ pub record TermsGoing (ts : List LinearInfo) (left n : ℕ) : Type 0 where
   pub small : AllSmall ts
   pub few : sizes (map info-term (take n ts)) + left ≡ 19
 
-thresholds-length : (t : LinearInfo) (k : ℕ) → length (thresholds t k) ≡ k
-thresholds-length t zero = refl
-thresholds-length t (suc k) = ap suc (thresholds-length t k)
-
 sizes-append : (ts us : List Term) → sizes (ts ++ us) ≡ sizes ts + sizes us
 sizes-append [] us = omega arith
 sizes-append (t ∷ ts) us = let e = sizes-append ts us in omega arith
-
-map-append : (xs ys : List LinearInfo) → map info-term (xs ++ ys) ≡ map info-term xs ++ map info-term ys
-map-append [] ys = refl
-map-append (x ∷ xs) ys = ap (λ (r : List Term). info-term x ∷ r) (map-append xs ys)
 
 pub terms-none : TermsGoing (replicate 15 no-info) 19 0
 terms-none = record { long = refl; small = every-replicate no-info Small 15 (record { top = lit< tt }); few = refl }
@@ -47,8 +40,8 @@ terms-none = record { long = refl; small = every-replicate no-info Small 15 (rec
 sizes-more : (ts : List LinearInfo) (n : ℕ) (t : LinearInfo) → n < length ts
     → sizes (map info-term (take (n + 1) (set ts n t))) ≡ sizes (map info-term (take n ts)) + t .count
 sizes-more ts n t h =
-    rw (add-one n, take-suc-set ts n t h, map-append (take n ts) (t ∷ []), sizes-append (map info-term (take n ts)) (info-term t ∷ []))
-    (let e = thresholds-length t (t .count) in omega arith)
+    rw (add-one n, take-suc-set ts n t h, map-append info-term (take n ts) (t ∷ []), sizes-append (map info-term (take n ts)) (info-term t ∷ []))
+    (let e = length-thresholds t (t .count) in omega arith)
 
 pub terms-more : (ts : List LinearInfo) (left n : ℕ) (t : LinearInfo) → n < 15 → Small t × (t .count ≤ left) → TermsGoing ts left n
     → TermsGoing (set ts n t) (left - t .count) (n + 1)

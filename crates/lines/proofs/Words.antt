@@ -11,7 +11,7 @@ use lib.Seq.{ext-getD, getD-append-seam, getD-set-same, getD-set-other}
 use borrow.Author.Tests.{ltb-true, ltb-false, leb-true, le-leb, eqb-true, eqb-false, eq-eqb, ne-eqb}
 use Rattle.lines.specs.declared.Numeral.the-variants.{Empty}
 use Rattle.lines.specs.declared.Word.{Word}
-use Rattle.lines.specs.Lines.{Lined, is-empty, is-word, line-from, line-more, line-start, line-whole, lined, none-kept, number-more, number-whole, numbered, same-below, with-numbers, word-more}
+use Rattle.lines.specs.Lines.{Lined, is-empty, is-word, line-from, line-more, line-start, lined, number-more, numbered, same-below, with-numbers, word-more}
 use Rattle.lines.specs.Reading.{ahead, first-piece, pieces, word-of}
 use Rattle.lines.proofs.Steps.{and-left, and-right}
 use Rattle.lines.proofs.Reading.{from-behind, worded, worded-byte, worded-space}
@@ -146,16 +146,6 @@ word-reads xs bs v e = spelled-is v (word-spelled xs (line-start .word) [] bs sp
 
 pub word-found : (xs : List ℤ) (bs : List ℕ) → length (word-of bs) ≤ 8 → is-word (line-from (lined xs line-start) bs .line .word) (word-of bs) ≡ true
 word-found xs bs h = spelled-found (word-spelled xs (line-start .word) [] bs spelled-none) h
-
-pub whole-word : (k : Lined) → line-whole k .line .word ≡ k .line .word
-unfolding line-whole
-whole-word k = by (k .line .behind)
-  where
-    by : (t : Bool)
-        → cond t (with-numbers (k .line .word) (number-whole (numbered (k .nums) (k .line .numbers))))
-        (lined (k .nums) (record { word = k .line .word; behind = false; numbers = none-kept (k .line .numbers) })) .line .word ≡ k .line .word
-    by true = refl
-    by false = refl
 
 -- Empty lines ----------------------------------------------------------------------------------------------------------
 

@@ -9,7 +9,7 @@ use borrow.Author.Tests.{le-leb, leb-false, leb-true, lt-leb}
 use native.Mathlib.Numerals.{add-one}
 use lib.Dec.{leb}
 use lib.Seq.{take-suc, take-suc-set}
-use lib.ListN.{length, take, getD, set, replicate, length-set, length-map, length-take}
+use lib.ListN.{length, take, getD, set, length-set, length-map, length-take}
 use Rattle.sat.specs.declared.Lit.{Lit}
 use Rattle.mixed.specs.declared.LinearInfo.{LinearInfo}
 use Rattle.log_adder.specs.declared.VarRange.{VarRange}
@@ -18,7 +18,7 @@ use Rattle.sat.specs.Lit.{neg}
 use Rattle.log_encoding.specs.Terms.{Term, flip, singles, term}
 use Rattle.log_encoding.specs.Enumerate.{bounded, enumerate}
 use Rattle.mixed.specs.Infos.{equated, info-lit, info-term, negated-info, thresholds}
-use Rattle.sat.proofs.Fresh.{length-fresh}
+use Rattle.sat.proofs.Fresh.{fresh-last, length-fresh}
 use Rattle.log_encoding.proofs.Flip.{flip-snoc}
 use Rattle.log_encoding.specs.Adder2.{eq-column, eq-ge-terms, eq-le-terms}
 use Rattle.log_encoding.specs.Column.{column, ge-terms, le-terms}
@@ -26,11 +26,6 @@ use Rattle.sat.specs.Fresh.{fresh}
 use Rattle.log_adder.specs.ColumnInfo.{ColumnSized, column-clauses, column-infos, eq-infos, lit-info, own-lits, range-info, range-lits}
 use Rattle.sat.specs.LitArray.{lit, num}
 use Rattle.log_encoding.proofs.ColumnMost.{Most, column-most, eq-column-most}
-
-fresh-last : (k v : ℕ) → fresh (suc k) v ≡ fresh k v ++ (2 * (v + k) ∷ [])
-fresh-last zero v = ap (λ (x : ℕ). x ∷ []) (omega arith)
-fresh-last (suc k) v =
-    ap (λ (xs : List ℕ). 2 * v ∷ xs) (fresh-last k (suc v)) ∙ ap (λ (x : ℕ). 2 * v ∷ (fresh k (suc v) ++ (x ∷ []))) (omega arith)
 
 -- The thresholds of consecutive variables ---------------------------------------------------------------------------
 
@@ -151,19 +146,6 @@ module _ (c : ColumnInfo) (z : ColumnSized c) (long : length (c .own) ≡ 12) wh
   eq-column-size = eq-column-most (own-lits c) (range-lits (c .carry)) (range-lits (c .next)) own-few next-few
 
 -- The array of terms -------------------------------------------------------------------------------------------------
-
--- what holds at every place still does after a store
-pub every-set : {A : Type 0} (d : A) (P : A → Type 0) (xs : List A) (i : ℕ) (x : A) → ((k : ℕ) → P (getD xs k d)) → P x → (k : ℕ) → P (getD (set xs i x) k d)
-every-set d P [] i x h p k = h k
-every-set d P (y ∷ xs) zero x h p zero = p
-every-set d P (y ∷ xs) zero x h p (suc k) = h (suc k)
-every-set d P (y ∷ xs) (suc i) x h p zero = h zero
-every-set d P (y ∷ xs) (suc i) x h p (suc k) = every-set d P xs i x (λ j. h (suc j)) p k
-
-pub every-replicate : {A : Type 0} (d : A) (P : A → Type 0) (n : ℕ) → P d → (k : ℕ) → P (getD (replicate n d) k d)
-every-replicate d P zero p k = p
-every-replicate d P (suc n) p zero = p
-every-replicate d P (suc n) p (suc k) = every-replicate d P n p k
 
 -- one term more stored
 pub infos-more : (f : Lit → LinearInfo) (own : List Lit) (ts : List LinearInfo) (i : ℕ) → i < length own → i < length ts

@@ -10,6 +10,7 @@ use lib.Dec.{eqb}
 use lib.ListN.{length, getD, take, set}
 use lib.Seq.{take-suc, take-suc-set}
 use Rattle.arithmetic.specs.Bits.{bit-length-within}
+use Rattle.arithmetic.proofs.Bits.{within-zero}
 use Rattle.sat.specs.declared.Lit.{Lit}
 use Rattle.sat.specs.Lit.{neg}
 use Rattle.log_encoding.specs.Adder.{AdderColumn}
@@ -55,11 +56,7 @@ constant-grid f (c ∷ g) k h =
     ∙ ap (λ (n : ℕ). grid-columns n 0 (c ∷ g) k) (width k h)
   where
     width : (k : ℕ) → k < 2 ^ f → suc (max (length g) (bit-length-within f (k / 2))) ≡ max (length (c ∷ g)) (bit-length-within f k)
-    width zero h = let e : bit-length-within f 0 ≡ 0 = zero-bits f in let e₂ : bit-length-within f (0 / 2) ≡ 0 = zero-bits f in omega arith
-      where
-        zero-bits : (f : ℕ) → bit-length-within f 0 ≡ 0
-        zero-bits zero = refl
-        zero-bits (suc f) = refl
+    width zero h = let e : bit-length-within f 0 ≡ 0 = within-zero f in let e₂ : bit-length-within f (0 / 2) ≡ 0 = within-zero f in omega arith
     width (suc k) h = let e = bits-half f (suc k) (omega arith) h in omega arith
 
 -- Literals negated ---------------------------------------------------------------------------------------------------

@@ -1,20 +1,21 @@
--- One literal pushed, and one after the other.
+-- Literals pushed: one, one after the other, once for each bit of a coefficient; arrays that hold none yet.
 use mathlib.Core.Bool.{cond}
 use lib.Dec.{eqb, lit<}
 use borrow.Author.Tests.{eq-eqb, ne-eqb}
 use mathlib.Core.Path.{_≡_, refl, ap, ap₂, sym, _∙_}
 use mathlib.Core.List.{List, [], _∷_, _++_, map, map-append}
-use mathlib.Core.Logic.{_⊎_, inl, inr, ⊎-elim}
+use mathlib.Core.Logic.{_⊎_, ⊎-elim}
 use Prim.Native.Nat.{ℕ, zero, suc, _+_, _-_, _*_, _/_, _%_, _^_, _≤_, _<_}
-use native.Mathlib.Nat.{add-zero, mul-zero, not-suc-le-zero, sub-zero}
+use native.Mathlib.Nat.{add-zero, not-suc-le-zero, sub-zero}
 use native.Mathlib.Numerals.{add-one, sub-one}
 use native.Mathlib.Omega.{arith}
-use lib.ListN.{length, getD, set, take, replicate, length-set, length-append, length-map, length-take}
+use lib.ListN.{length, getD, getD-replicate, set, take, replicate, length-set, length-append, length-map, length-take}
 use lib.Seq.{getD-set-same, getD-set-other, take-suc, take-suc-set}
 use Rattle.sat.specs.declared.Lit.{Lit}
 use Rattle.log_adder.specs.ColumnInfo.{AllLow}
 use Rattle.sat.specs.LitArray.{first-lits, lit, num}
-use Rattle.log_adder.proofs.ColumnTerms.{every-set}
+use Rattle.arithmetic.proofs.Tests.{same-or}
+use Rattle.sat.proofs.Every.{every-set}
 use Rattle.log_encoding.specs.Gather.{Grid, push-scaled, push-value}
 use Rattle.log_gather.specs.Arrays.{Arrays, Few, Holds, Pushed}
 
@@ -35,12 +36,6 @@ push-other (suc w) l [] zero h = refl
 push-other (suc w) l [] (suc i) h = push-other w l [] i (λ e. h (ap suc e))
 push-other (suc w) l (c ∷ g) zero h = refl
 push-other (suc w) l (c ∷ g) (suc i) h = push-other w l g i (λ e. h (ap suc e))
-
-pub same-or : (i w : ℕ) → (i ≡ w) ⊎ (i ≡ w → ⊥)
-same-or zero zero = inl refl
-same-or zero (suc w) = inr (λ e. omega arith)
-same-or (suc i) zero = inr (λ e. omega arith)
-same-or (suc i) (suc w) = ⊎-elim (λ (e : i ≡ w). inl (ap suc e)) (λ (h : i ≡ w → ⊥). inr (λ e. h (omega arith))) (same-or i w)
 
 -- One after the other ------------------------------------------------------------------------------------------------
 
@@ -152,9 +147,8 @@ module _ (cols : List (List Lit)) (counts : List ℕ) (w : ℕ) (l : Lit) (h : w
 -- The loops ----------------------------------------------------------------------------------------------------------
 
 -- nothing pushed
-pub pushed-none : {cols : List (List Lit)} {counts : List ℕ} (f : Grid → Grid) → ((g : Grid) → f g ≡ g) → Arrays cols counts → Pushed 0 cols counts f cols counts
-pushed-none {cols} {counts} f e z =
-    record { arrays = z; few = λ m b i. let k = b i in omega arith; holds = λ g q. rw (e g) q }
+pub pushed-nothing : {cols : List (List Lit)} {counts : List ℕ} (k : ℕ) (f : Grid → Grid) → ((g : Grid) → f g ≡ g) → Arrays cols counts → Pushed k cols counts f cols counts
+pushed-nothing {counts = counts} k f e z = record { arrays = z; few = λ m b i. let r = b i in omega arith; holds = λ g q. rw (e g) q }
 
 -- first one thing, then another
 pub pushed-then : {j k : ℕ} {cols cols₁ cols₂ : List (List Lit)} {counts counts₁ counts₂ : List ℕ} (f f₁ f₂ : Grid → Grid) → ((g : Grid) → f g ≡ f₂ (f₁ g))
@@ -220,7 +214,7 @@ pub record Scaling (n f o : ℕ) (ls : List ℕ) (coef : ℕ) (cols₀ : List (L
 
 pub scaling-start : (n f o : ℕ) (ls : List ℕ) (coef : ℕ) (cols : List (List Lit)) (counts : List ℕ) → Arrays cols counts → Scaling n f o ls coef cols counts cols counts coef 0
 scaling-start n f o ls coef cols counts z =
-    record { within = omega arith; so-far = λ g. g; pushed = rw (mul-zero n) (pushed-none (λ g. g) (λ g. refl) z); same = λ g. rw (sub-zero f, add-zero o) }
+    record { within = omega arith; so-far = λ g. g; pushed = pushed-nothing (n * 0) (λ g. g) (λ g. refl) z; same = λ g. rw (sub-zero f, add-zero o) }
 
 module _ {n f o : ℕ} {ls : List ℕ} {coef : ℕ} {cols₀ : List (List Lit)} {counts₀ : List ℕ} {cols : List (List Lit)} {counts : List ℕ} {k i : ℕ} (s : Scaling n f o ls coef cols₀ counts₀ cols counts k i) where
   pub scaling-turn : i < f → (cols₁ : List (List Lit)) (counts₁ : List ℕ) → Pushed n cols counts (λ g. cond (eqb (k % 2) 1) (push-value (o + i) ls g) g) cols₁ counts₁
@@ -248,11 +242,6 @@ module _ {n f o : ℕ} {ls : List ℕ} {coef : ℕ} {cols₀ : List (List Lit)} 
 
 -- No literals yet ----------------------------------------------------------------------------------------------------
 
-at-replicate : {A : Type 0} (n : ℕ) (x d : A) (i : ℕ) → i < n → getD (replicate n x) i d ≡ x
-at-replicate zero x d i h = absurd (not-suc-le-zero h)
-at-replicate (suc n) x d zero h = refl
-at-replicate (suc n) x d (suc i) h = at-replicate n x d i (omega arith)
-
 all-replicate : {A : Type 0} (P : A → Type 0) (n : ℕ) (x d : A) → P x → P d → (i : ℕ) → P (getD (replicate n x) i d)
 all-replicate P zero x d p q i = q
 all-replicate P (suc n) x d p q zero = p
@@ -266,7 +255,7 @@ nothing-held = (
   record {
     rows = refl;
     places = refl;
-    wide = λ i k. ap length (at-replicate 32 (replicate 12 (lit 0)) [] i k);
+    wide = λ i k. ap length (getD-replicate 32 i (replicate 12 (lit 0)) [] k);
     low = all-replicate AllLow 32 (replicate 12 (lit 0)) [] (all-replicate (λ (x : Lit). x .0 < 2 ^ 31) 12 (lit 0) (lit 0) (lit< tt) (lit< tt)) (λ k. lit< tt);
   },
   (λ i. let e = zero-at 32 i in omega arith),

@@ -43,7 +43,7 @@ shl-next m o n k h =
     let f = shl-half (o + n) k in
     rw e (omega arith)
 
--- eight steps are enough for a coefficient below 256 -------------------------------------------------------------------
+-- Enough steps: f for a coefficient below 2 ^ f -------------------------------------------------------------------
 
 no-bits : (f o : ℕ) (ls : List ℕ) (g : Grid) → push-scaled f 0 o ls g ≡ g
 no-bits zero o ls g = refl
@@ -56,7 +56,7 @@ steps-enough (suc f) zero k o ls g h l = absurd (not-suc-le-zero l)
 steps-enough (suc f) (suc e) k o ls g h l =
     steps-enough f e (k / 2) (suc o) ls (cond (eqb (k % 2) 1) (push-value o ls g) g) (omega arith) (omega arith)
 
--- the width ------------------------------------------------------------------------------------------------------------
+-- The width ----------------------------------------------------------------------------------------------------------
 
 -- what comes to less than 2 ^ m takes m columns
 pub widths-most : (m f k o n w : ℕ) → w ≤ m → shl (o + n) k < shl m 1 → widths f k o n w ≤ m

@@ -16,12 +16,12 @@ use Rattle.log_encoding.specs.AdderSize.{input-shapes, reached, too-tall}
 use Rattle.log_encoding.proofs.Heights.{column-fits, fits-step}
 use Rattle.log_gather.specs.Arrays.{Holds, grid-columns, widths}
 
-lay-length : (o : ℕ) (ls : List ℕ) (g : Grid) → length (push-value o ls g) ≡ max (length g) (o + length ls)
-lay-length zero [] g = omega arith
-lay-length zero (l ∷ ls) [] = omega (arith, lay-length zero ls [])
-lay-length zero (l ∷ ls) (c ∷ g) = omega (arith, lay-length zero ls g)
-lay-length (suc o) ls [] = omega (arith, lay-length o ls [])
-lay-length (suc o) ls (c ∷ g) = omega (arith, lay-length o ls g)
+push-length : (o : ℕ) (ls : List ℕ) (g : Grid) → length (push-value o ls g) ≡ max (length g) (o + length ls)
+push-length zero [] g = omega arith
+push-length zero (l ∷ ls) [] = omega (arith, push-length zero ls [])
+push-length zero (l ∷ ls) (c ∷ g) = omega (arith, push-length zero ls g)
+push-length (suc o) ls [] = omega (arith, push-length o ls [])
+push-length (suc o) ls (c ∷ g) = omega (arith, push-length o ls g)
 
 cond-length : (b : Bool) (g h : Grid) → length (cond b g h) ≡ cond b (length g) (length h)
 cond-length true g h = refl
@@ -32,7 +32,7 @@ pub scaled-length : (f k o : ℕ) (ls : List ℕ) (g : Grid) → length (push-sc
 scaled-length zero k o ls g = refl
 scaled-length (suc f) k o ls g =
     scaled-length f (k / 2) (suc o) ls (cond (eqb (k % 2) 1) (push-value o ls g) g)
-    ∙ ap (widths f (k / 2) (suc o) (length ls)) (cond-length (eqb (k % 2) 1) (push-value o ls g) g ∙ ap (λ (x : ℕ). cond (eqb (k % 2) 1) x (length g)) (lay-length o ls g))
+    ∙ ap (widths f (k / 2) (suc o) (length ls)) (cond-length (eqb (k % 2) 1) (push-value o ls g) g ∙ ap (λ (x : ℕ). cond (eqb (k % 2) 1) x (length g)) (push-length o ls g))
 
 pub widths-step : (f k o n w : ℕ) → 0 < f → widths f k o n w ≡ widths (f - 1) (k / 2) (o + 1) n (cond (eqb (k % 2) 1) (max w (o + n)) w)
 widths-step zero k o n w h = absurd (not-suc-le-zero h)

@@ -1,5 +1,4 @@
--- Literals gathered into columns by weight, after `log_encoding_adder` and `encode_linear_log_from_encodings` of log.rs, and the arrays
--- that hold them: counts are exact, and the literals of each column of at most 12 are there.
+-- The arrays that hold gathered literals (log_encoding, Gather): counts are exact, and the literals of each column of at most 12 are there.
 use Prim.Native.Nat.{ℕ, zero, suc, max, _+_, _/_, _%_, _≤_, _<_}
 use mathlib.Core.Path.{_≡_}
 use mathlib.Core.Bool.{cond}
@@ -46,7 +45,7 @@ widths (suc f) k o n w = widths f (k / 2) (suc o) n (cond (eqb (k % 2) 1) (max w
 
 -- Columns for the adders ---------------------------------------------------------------------------------------------
 
--- w columns of the arrays from the i-th on, with the bits of k
+-- w columns of the grid from the i-th on, with the bits of k
 abbrev pub grid-columns : ℕ → ℕ → Grid → ℕ → List AdderColumn
 grid-columns zero i g k = []
 grid-columns (suc w) i g k = record { own = getD g i []; constant = k % 2 } ∷ grid-columns w (i + 1) g (k / 2)

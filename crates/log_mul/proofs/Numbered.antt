@@ -15,7 +15,7 @@ use Rattle.sat.proofs.Fresh.{length-fresh}
 use Rattle.log_encoding.specs.Adder.{AdderColumn, adder, carry-size, empty-column, extend}
 use Rattle.log_encoding.specs.Gather.{pad-columns}
 use Rattle.log_encoding.specs.AdderSize.{ColumnShape, Reached, column-shape, input-shapes, pad-shapes, push-counts, reached, reached-column, reached-past}
-use Rattle.log_adder.proofs.ColumnTerms.{every-set}
+use Rattle.sat.proofs.Every.{every-set}
 use Rattle.log_encoding.proofs.AdderSize.{pad-columns-shapes}
 use Rattle.log_gather.specs.Arrays.{AllSmall}
 use Rattle.sat.specs.declared.Lit.{Lit}

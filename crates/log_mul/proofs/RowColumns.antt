@@ -1,7 +1,7 @@
 -- The rows of a product in columns: how the code gathers them, how many columns there are, and what the adder makes of them.
 use mathlib.Core.Path.{_≡_, refl, ap, sym, _∙_}
 use mathlib.Core.Bool.{false}
-use mathlib.Core.List.{List, [], _∷_, _++_, map, map-append}
+use mathlib.Core.List.{List, [], _∷_, map, map-append}
 use Prim.Native.Nat.{ℕ, suc, zero, max, _+_, _-_, _*_, _≤_, _<_}
 use native.Mathlib.Nat.{not-suc-le-zero, sub-zero}
 use native.Mathlib.Numerals.{add-one, sub-one}
@@ -13,7 +13,7 @@ use Rattle.sat.specs.Clause.{Clauses}
 use Rattle.sat.specs.Encoded.{EncodedBits}
 use Rattle.sat.specs.Fresh.{fresh}
 use Rattle.sat.specs.declared.Lit.{Lit}
-use Rattle.sat.proofs.Fresh.{length-fresh}
+use Rattle.sat.proofs.Fresh.{fresh-last, length-fresh}
 use Rattle.clause_set.specs.Stores.{add-clauses, after}
 use Rattle.clause_set.specs.declared.Counts.{Counts}
 use Rattle.clause_set.proofs.Adding.{add-append}
@@ -37,10 +37,6 @@ use Rattle.log_mul.specs.declared.Multiplied.{Multiplied}
 use Rattle.log_mul.proofs.Rows.{gates-most}
 
 -- Consecutive literals -----------------------------------------------------------------------------------------------
-
-fresh-last : (n v : ℕ) → fresh (suc n) v ≡ fresh n v ++ (2 * (v + n) ∷ [])
-fresh-last zero v = ap (λ (x : ℕ). 2 * x ∷ []) (omega arith)
-fresh-last (suc n) v = ap (λ (xs : List ℕ). 2 * v ∷ xs) (fresh-last n (suc v) ∙ ap (λ (x : ℕ). fresh n (suc v) ++ (2 * x ∷ [])) (omega arith))
 
 -- one literal more
 pub fresh-more : (out : List Lit) (j v : ℕ) (l : Lit) → j < length out → l .0 ≡ 2 * (v + j) → first-lits out j ≡ fresh j v → first-lits (set out j l) (j + 1) ≡ fresh (j + 1) v

@@ -17,7 +17,7 @@ use Rattle.sat.specs.LitArray.{first-lits, lit, num}
 use Rattle.norm_csp.specs.Rules.{CmpOp, LinearTerm, terms-of}
 use Rattle.log_encoding.specs.LogEncoding.{LogEncoding}
 use Rattle.log_var.specs.declared.LogEncoding.{LogEncoding as Encoding}
-use Rattle.log_gather.proofs.Pushing.{same-or}
+use Rattle.arithmetic.proofs.Tests.{same-or}
 use Rattle.log_encoding.specs.EncodeLinearLog.{encode-linear-log, encode-weighted, offset-constant, weighted, weighted-terms}
 use Rattle.log_encoding.specs.Linear.{Weighted}
 use Rattle.log_encoding.specs.LinearSize.{linear-log-reached, linear-reached, shape-of}

@@ -34,10 +34,6 @@ pushed-as t h l f f₁ e p =
     let most = mul-le-mul-left (t .len) l in
     record { arrays = p .arrays; few = λ m b i. omega (arith, p .few m b i, most, h .len); holds = λ g q. rw (← (e g)) (p .holds g q) }
 
--- nothing pushed
-pub pushed-nothing : {cols : List (List Lit)} {counts : List ℕ} (k : ℕ) (f : Grid → Grid) → ((g : Grid) → f g ≡ g) → Arrays cols counts → Pushed k cols counts f cols counts
-pushed-nothing {counts = counts} k f e z = record { arrays = z; few = λ m b i. let r = b i in omega arith; holds = λ g q. rw (e g) q }
-
 -- Terms of an array --------------------------------------------------------------------------------------------------
 
 -- the term at a place, and those after it
@@ -126,7 +122,7 @@ module _ {steps : ℕ} (t : WeightedLits) (h : TermFits steps t) (e : steps ≤ 
   pub width-most : (w : ℕ) → w ≤ 25 → widths 12 (t .coef) 0 (t .len) w ≤ 25
   width-most w b = let z : 0 + t .len ≡ t .len = omega arith in widths-most 25 12 (t .coef) 0 (t .len) w b (rw z (h .reach))
 
--- the width -----------------------------------------------------------------------------------------------------------
+-- The width ----------------------------------------------------------------------------------------------------------
 
 pub sign-length : (s : Bool) (t : Weighted) (g : Grid)
     → length (cond (Bool·beq s (t .negative)) (push-scaled 12 (t .coef) 0 (t .lits) g) g) ≡ cond (Bool·beq s (t .negative)) (widths 12 (t .coef) 0 (length (t .lits)) (length g)) (length g)

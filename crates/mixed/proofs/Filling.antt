@@ -3,21 +3,16 @@ use Prim.Native.Nat.{_*_, _+_, _-_, _/_, _<_, _≤_, suc, zero, ℕ}
 use lib.ListN.{getD, length, length-set, set}
 use lib.Seq.{getD-set-other, getD-set-same}
 use mathlib.Core.List.{List}
-use mathlib.Core.Logic.{_⊎_, inl, inr, ⊎-elim}
-use mathlib.Core.Path.{_∙_, _≡_, ap, refl}
+use mathlib.Core.Logic.{_⊎_, ⊎-elim}
+use mathlib.Core.Path.{_∙_, _≡_, refl}
 use native.Mathlib.Nat.{eq-or-lt-of-le, mul-le-mul-left, mul-suc, not-suc-le-zero}
 use native.Mathlib.Numerals.{add-one}
 use native.Mathlib.Omega.{arith}
+use Rattle.arithmetic.proofs.Tests.{same-or}
 use Rattle.mixed.specs.declared.LinearInfo.{LinearInfo}
 use Rattle.mixed.specs.Infos.{info-lit}
 use Rattle.mixed_table.specs.Table.{SoundTable, cost-of, end-of, lit-of, loss-of, next-of}
 use Rattle.mixed.specs.Filling.{put-ends, put-last, put-row, put-rows}
-
-same-or : (a b : ℕ) → (a ≡ b) ⊎ (a ≡ b → ⊥)
-same-or zero zero = inl refl
-same-or zero (suc b) = inr (λ e. omega arith)
-same-or (suc a) zero = inr (λ e. omega arith)
-same-or (suc a) (suc b) = ⊎-elim (λ p. inl (ap suc p)) (λ f. inr (λ e. f (omega arith))) (same-or a b)
 
 -- The loops that fill a table ----------------------------------------------------------------------------------------
 

@@ -1,4 +1,5 @@
-// The clauses of one inequality, after `encode_linear_ge_mixed_from_info` of mixed.rs. A call that is lent no entries only counts.
+// The clauses of one inequality and of one equation, after `encode_linear_ge_mixed_from_info` and `encode_linear_eq_mixed_from_info` of
+// mixed.rs. A call that is lent no entries only counts.
 // The thresholds of the terms go into one table (specs/Filling), by which the clauses are told; terms that do not fit take the plain
 // recursion.
 ghost use mathlib.Core.Path.{_≡_};

@@ -4,7 +4,7 @@ use borrow.Author.Tests.{le-ltb, lt-ltb}
 use lib.Dec.{leb, ltb}
 use lib.ListN.{getD, length}
 use mathlib.Core.Logic.{by-cases}
-use mathlib.Core.List.{[], _∷_}
+use mathlib.Core.List.{List, [], _++_, _∷_}
 use mathlib.Core.Path.{_∙_, _≡_, ap, ap₂, refl, sym}
 use native.Mathlib.Decide.{decLt}
 use native.Mathlib.Omega.{arith}
@@ -63,6 +63,11 @@ pub fresh-agree : (α β : Assignment) (n v : ℕ) → Monotone α (fresh n v) �
 fresh-agree α β n v f g e agree x h =
     by-cases (decLt x v) (agree x)
     (λ high. fresh-holds α n v x f (omega arith) h ∙ ap (leb (suc (x - v))) e ∙ sym (fresh-holds β n v x g (omega arith) h))
+
+-- one variable more
+pub fresh-last : (n v : ℕ) → fresh (suc n) v ≡ fresh n v ++ (2 * (v + n) ∷ [])
+fresh-last zero v = ap (λ (x : ℕ). 2 * x ∷ []) (omega arith)
+fresh-last (suc n) v = ap (λ (xs : List ℕ). 2 * v ∷ xs) (fresh-last n (suc v) ∙ ap (λ (x : ℕ). fresh n (suc v) ++ (2 * x ∷ [])) (omega arith))
 
 -- One turn of a loop over new variables ------------------------------------------------------------------------------
 

@@ -6,3 +6,4 @@ pub mod Gate
 pub mod Fresh
 pub mod Number
 pub mod Size
+pub mod Every

@@ -8,7 +8,7 @@ use borrow.Author.Needs.{needs}
 use Rattle.sat.specs.declared.Lit.{Lit}
 use Rattle.log_adder.specs.ColumnInfo.{AllLow}
 use Rattle.sat.specs.LitArray.{lit}
-use Rattle.log_adder.proofs.ColumnTerms.{every-replicate, every-set}
+use Rattle.sat.proofs.Every.{every-replicate, every-set}
 use Rattle.columns_check.proofs.lits_from.Statement.{statement}
 use Rattle.columns_check.proofs.lits_from.Tie as tie
 

@@ -6,7 +6,7 @@ use borrow.Author.Tests.{ltb-false}
 use borrow.Author.Needs.{needs}
 use Rattle.sat.specs.declared.Lit.{Lit}
 use Rattle.sat.specs.LitArray.{lit}
-use Rattle.log_adder.proofs.ColumnTerms.{every-replicate}
+use Rattle.sat.proofs.Every.{every-replicate}
 use Rattle.columns_check.proofs.read_row.Statement.{statement}
 use Rattle.columns_check.proofs.read_row.Tie as tie
 

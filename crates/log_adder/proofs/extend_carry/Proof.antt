@@ -7,7 +7,7 @@ use borrow.Author.Needs.{needs}
 use Rattle.log_adder.proofs.extend_carry.Statement.{statement}
 use Rattle.log_adder.proofs.extend_carry.Tie as tie
 use Rattle.sat.specs.LitArray.{lit}
-use Rattle.log_adder.proofs.ColumnTerms.{every-replicate}
+use Rattle.sat.proofs.Every.{every-replicate}
 use Rattle.log_adder.proofs.AdderLoops.{Extending, extending-end, extending-start, extending-turn}
 
 abbrev Inv-loop : tie.InvT-loop

@@ -10,7 +10,8 @@ use borrow.Author.Needs.{needs}
 use Rattle.mixed.specs.Infos.{AllSmall, Small, no-info}
 use Rattle.log_adder.specs.ColumnInfo.{lit-info, range-info}
 use Rattle.sat.specs.LitArray.{lit}
-use Rattle.log_adder.proofs.ColumnTerms.{every-replicate, every-set, infos-more, infos-three}
+use Rattle.sat.proofs.Every.{every-replicate, every-set}
+use Rattle.log_adder.proofs.ColumnTerms.{infos-more, infos-three}
 use Rattle.log_adder.proofs.infos.Statement.{statement}
 use Rattle.log_adder.proofs.infos.Tie as tie
 

@@ -12,7 +12,7 @@ use Rattle.log_gather.proofs.negate_all.Tie as tie
 use Rattle.sat.specs.Lit.{neg}
 use Rattle.log_adder.specs.ColumnInfo.{AllLow}
 use Rattle.sat.specs.LitArray.{first-lits, lit}
-use Rattle.log_adder.proofs.ColumnTerms.{every-replicate, every-set}
+use Rattle.sat.proofs.Every.{every-replicate, every-set}
 use Rattle.log_gather.proofs.Constants.{neg-low, negate-more}
 
 abbrev Inv-loop : tie.InvT-loop

@@ -8,7 +8,7 @@ use Rattle.sat.specs.LitArray.{first-lits, lit}
 use Rattle.sat.specs.Fresh.{fresh}
 use Rattle.sat.specs.declared.Lit.{Lit}
 use Rattle.log_adder.specs.ColumnInfo.{AllLow}
-use Rattle.log_adder.proofs.ColumnTerms.{every-replicate, every-set}
+use Rattle.sat.proofs.Every.{every-replicate, every-set}
 use Rattle.log_mul.proofs.RowColumns.{fresh-more}
 use borrow.Author.Needs.{needs}
 use Rattle.log_mul.proofs.consecutive.Statement.{statement}

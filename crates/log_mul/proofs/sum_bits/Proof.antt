@@ -7,7 +7,7 @@ use native.Mathlib.Omega.{arith}
 use Rattle.sat.specs.LitArray.{lit}
 use Rattle.sat.specs.declared.Lit.{Lit}
 use Rattle.log_encoding.specs.AdderSize.{Reached, input-shapes, reached}
-use Rattle.log_adder.proofs.ColumnTerms.{every-replicate}
+use Rattle.sat.proofs.Every.{every-replicate}
 use Rattle.log_mul.proofs.Numbered.{ColumnsLeft, PastLeft, columns-end, columns-some, columns-start, columns-turn, past-again, past-end, past-some}
 use borrow.Author.Needs.{needs}
 use Rattle.log_mul.proofs.sum_bits.Statement.{statement}

@@ -8,7 +8,7 @@ use native.Mathlib.Omega.{arith}
 use Rattle.sat.specs.LitArray.{lit}
 use Rattle.sat.specs.declared.Lit.{Lit}
 use Rattle.log_encoding.specs.AdderSize.{too-tall}
-use Rattle.log_adder.proofs.ColumnTerms.{every-replicate}
+use Rattle.sat.proofs.Every.{every-replicate}
 use Rattle.log_linear.specs.Added.{bits-of}
 use Rattle.log_linear.proofs.Literals.{lits-long}
 use Rattle.log_encoding.specs.Multiply.{multiplier}

@@ -9,7 +9,7 @@ use lib.Dec.{lit<}
 use lib.ListN.{getD, length, length-set}
 use Rattle.sat.specs.declared.Lit.{Lit}
 use Rattle.sat.specs.LitArray.{first-lits, lit}
-use Rattle.log_adder.proofs.ColumnTerms.{every-replicate, every-set}
+use Rattle.sat.proofs.Every.{every-replicate, every-set}
 use Rattle.log_gather.specs.Arrays.{AllSmall}
 use Rattle.log_sum.proofs.Settings.{lits-more}
 

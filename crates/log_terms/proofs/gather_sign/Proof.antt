@@ -15,7 +15,8 @@ use Rattle.log_gather.specs.Arrays.{Pushed}
 use Rattle.sat.specs.LitArray.{first-lits}
 use Rattle.log_encoding.specs.Linear.{Weighted, gather-sign}
 use Rattle.log_terms.specs.Terms.{no-term, weighted-all}
-use Rattle.log_terms.proofs.Gathering.{Gathering, all-low, empty-column, enough, pushed-as, pushed-nothing, terms-next, terms-none, gathering-end, gathering-few, gathering-start, gathering-turn}
+use Rattle.log_gather.proofs.Pushing.{pushed-nothing}
+use Rattle.log_terms.proofs.Gathering.{Gathering, all-low, empty-column, enough, pushed-as, terms-next, terms-none, gathering-end, gathering-few, gathering-start, gathering-turn}
 
 abbrev Inv-loop : tie.InvT-loop
 Inv-loop n sign steps counts₀ ts cols₀ i₀ counts cols i = Gathering (gather-sign sign) (weighted-all ts n) ([] ∷ []) cols counts i × (i ≤ n)

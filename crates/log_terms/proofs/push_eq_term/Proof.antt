@@ -13,7 +13,8 @@ use Rattle.sat.specs.LitArray.{first-lits}
 use Rattle.log_encoding.specs.Linear.{positive-lits}
 use Rattle.log_terms.specs.Terms.{weighted-of}
 use Rattle.log_encoding.proofs.LinearSize.{length-positive}
-use Rattle.log_terms.proofs.Gathering.{all-low, enough, none-pushed, pushed-as, pushed-nothing, some-pushed, term-long}
+use Rattle.log_gather.proofs.Pushing.{pushed-nothing}
+use Rattle.log_terms.proofs.Gathering.{all-low, enough, none-pushed, pushed-as, some-pushed, term-long}
 
 -- how many literals there are
 many : (c : tie.Start) → length (positive-lits (weighted-of (c .args .t))) ≡ c .args .t .len

@@ -8,7 +8,7 @@ use Prim.Native.Nat.{_<_, _^_}
 use Rattle.sat.specs.declared.Lit.{Lit}
 use Rattle.sat.specs.LitArray.{lit}
 use Rattle.log_encoding.specs.AdderSize.{too-tall}
-use Rattle.log_adder.proofs.ColumnTerms.{every-replicate}
+use Rattle.sat.proofs.Every.{every-replicate}
 use Rattle.log_terms.specs.Terms.{weighted-all}
 use Rattle.log_weighted.proofs.SignSum.{sign-reaches, sign-ready, sum-added}
 

@@ -1,4 +1,4 @@
--- `mixed::encode_sub` meets its contract: it adds the clauses that the table tells, in their order. The measure is the number of
+-- `mixed_table::encode_sub` meets its contract: it adds the clauses that the table tells, in their order. The measure is the number of
 -- thresholds left. The loop's invariant, `Going`: where the clauses of the thresholds left are added next, all are.
 use mathlib.Core.Path.{_≡_, refl, ap, sym, _∙_}
 use mathlib.Core.List.{List, [], _∷_, _++_}

@@ -1,4 +1,4 @@
--- `mixed::encode_table` meets its contract.
+-- `mixed_table::encode_table` meets its contract.
 use mathlib.Core.Path.{_≡_, _∙_, ap, refl}
 use mathlib.Core.List.{[]}
 use Prim.Native.Nat.{_*_, _+_, _≤_}

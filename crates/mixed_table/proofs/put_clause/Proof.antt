@@ -1,4 +1,4 @@
--- `mixed::put_clause` meets its contract: the clause is stored where the store reaches, and counted.
+-- `mixed_table::put_clause` meets its contract: the clause is stored where the store reaches, and counted.
 use mathlib.Core.Path.{_≡_, _∙_, ap}
 use mathlib.Core.List.{[], _∷_, _++_}
 use mathlib.Core.Logic.{⊎-elim}

@@ -1,4 +1,4 @@
--- `mixed::put_inside` meets its contract. The loop's invariant: the first i literals of the prefix are stored, where the store reaches.
+-- `mixed_table::put_inside` meets its contract. The loop's invariant: the first i literals of the prefix are stored, where the store reaches.
 use mathlib.Core.Path.{_≡_, ap, sym, _∙_}
 use mathlib.Core.List.{List, [], _∷_, _++_}
 use Prim.Native.Nat.{ℕ, _+_, _-_, _≤_}

@@ -1,4 +1,4 @@
--- `mixed::put_whole` meets its contract. The loop's invariant: the first i literals of the prefix are stored.
+-- `mixed_table::put_whole` meets its contract. The loop's invariant: the first i literals of the prefix are stored.
 use mathlib.Core.Path.{_≡_, ap, _∙_}
 use mathlib.Core.List.{List}
 use Prim.Native.Nat.{ℕ, _+_, _-_, _≤_}
