@@ -2,3 +2,4 @@ pub mod Examples
 pub mod Parts
 pub mod Printing
 pub mod Sizes
+pub mod Counting

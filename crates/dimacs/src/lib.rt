@@ -4,10 +4,15 @@ ghost use mathlib.Core.Path.{_≡_};
 ghost use Rattle.text.specs.Bytes.{text as text-of, write};
 ghost use Rattle.clause_set.specs.Stores.{clause-at, clauses-from};
 ghost use Rattle.dimacs.specs.Dimacs.{clause, clauses, highest-in, highest-variable, line, literal, number, print-of, refused};
+
+mod lengths; // lengths.rt: how long a print is
+
 use clause_set::clause_part;
 use clause_set::entry;
 use clause_set::within;
 use encoder_env::EncoderEnv;
+pub use lengths::dimacs_length;
+pub use lengths::refused_length;
 use sat::Lit;
 
 // The number that a literal's variable is printed as.

@@ -45,6 +45,15 @@ decimal-length (suc k) n h = by (ltb n 10) refl (decimal-length k (n / 10))
         let s = f (omega arith) in
         rw (decimal-more n t, length-append) (omega (arith, s))
 
+-- how long a number is, by the two returns of `decimal_length`
+pub one-digit-long : (n : ℕ) → n < 10 → (1 ≡ length (decimal n)) × (1 ≤ 10)
+one-digit-long n h = (rw (decimal-digit n h), omega arith)
+
+pub digits-long : (n : ℕ) {r : ℕ} → 10 ≤ n → n < 2 ^ 32 → r ≡ length (decimal (n / 10)) → (r + 1 ≡ length (decimal n)) × (r + 1 ≤ 10)
+digits-long n {r} h small e =
+    let long : r + 1 ≡ length (decimal n) = rw (decimal-more n h, length-append, e) in
+    (long, omega (arith, long, decimal-length 9 n (omega arith)))
+
 pub digits-value-append : (a : List ℕ) (n : ℕ) (b : List ℕ) → digits-value n (a ++ b) ≡ digits-value (digits-value n a) b
 unfolding digits-value
 digits-value-append [] n b = refl

@@ -1,7 +1,8 @@
 // Text written into a lent slice of bytes, from a place on. Each function answers the place behind what it wrote.
 ghost use mathlib.Core.Path.{_≡_};
 ghost use mathlib.Core.List.{[], _∷_};
-ghost use Prim.Native.Nat.{_+_, _<_};
+ghost use lib.ListN.{length};
+ghost use Prim.Native.Nat.{_+_, _<_, _≤_};
 ghost use Rattle.text.specs.Bytes.{text, write};
 ghost use Rattle.text.specs.Decimal.{decimal, integer};
 
@@ -33,6 +34,16 @@ pub fn put_decimal(out: &mut [u8], at: usize, n: u32) -> usize
     }
     let next = put_decimal(out, at, n / 10);
     put(out, next, digit(n % 10))
+}
+
+// How many bytes a number takes in decimal.
+pub fn decimal_length(n: u32) -> usize
+    ensures { λ r. ⌜ (r ≡ length (decimal n)) × (r ≤ 10) ⌝ }
+{
+    if n < 10 {
+        return 1;
+    }
+    decimal_length(n / 10) + 1
 }
 
 // The bytes of `s`.
