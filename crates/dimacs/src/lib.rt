@@ -6,14 +6,15 @@ ghost use Rattle.clause_set.specs.Stores.{clause-at, clauses-from};
 ghost use Rattle.dimacs.specs.Dimacs.{clause, clauses, highest-in, highest-variable, line, literal, number, print-of, refused};
 
 mod lengths; // lengths.rt: how long a print is
+mod whole; // whole.rt: a print written whole or not at all
 
 use clause_set::clause_part;
 use clause_set::entry;
 use clause_set::within;
 use encoder_env::EncoderEnv;
-pub use lengths::dimacs_length;
-pub use lengths::refused_length;
 use sat::Lit;
+pub use whole::print_dimacs;
+pub use whole::print_refused;
 
 // The number that a literal's variable is printed as.
 fn number(l: Lit) -> u32
@@ -119,7 +120,7 @@ fn put_line(out: &mut [u8], word: &[u8], a: u32, b: u32) -> usize
 }
 
 // The print of a job and its stores, from the start of `out`. What passes the end of `out` is dropped, and the answer is then its length.
-pub fn put_dimacs(out: &mut [u8], env: EncoderEnv, lits: &[u32], ends: &[u32]) -> usize
+fn put_dimacs(out: &mut [u8], env: EncoderEnv, lits: &[u32], ends: &[u32]) -> usize
     ensures { λ r. ⌜ text-of (now (out .exit)) r ≡ write (text-of (now (out .entry)) 0) (print-of env (now (lits .entry)) (now (ends .entry))) ⌝ }
 {
     let count = env.clauses;
@@ -129,7 +130,7 @@ pub fn put_dimacs(out: &mut [u8], env: EncoderEnv, lits: &[u32], ends: &[u32]) -
 }
 
 // The line of a refusal: field index and number.
-pub fn put_refused(out: &mut [u8], field: u32, status: u32) -> usize
+fn put_refused(out: &mut [u8], field: u32, status: u32) -> usize
     ensures { λ r. ⌜ text-of (now (out .exit)) r ≡ write (text-of (now (out .entry)) 0) (refused field status) ⌝ }
 {
     put_line(out, b"refused ", field, status)

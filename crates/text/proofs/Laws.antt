@@ -3,11 +3,12 @@ use mathlib.Core.Path.{_≡_, refl, sym, ap, _∙_}
 use mathlib.Core.List.{List, [], _∷_, _++_}
 use Prim.Native.Nat.{ℕ, suc, _+_, _≤_, _<_, min}
 use native.Mathlib.Omega.{arith}
-use native.Mathlib.Nat.{add-zero}
+use native.Mathlib.Nat.{add-zero, zero-add}
 use native.Mathlib.Numerals.{add-one}
 use lib.ListN.{length, set, getD, take, drop, length-set, drop-of-length-le}
 use lib.Seq.{sets, sets-eq, set-out, drop-cons, take-at}
-use Rattle.text.specs.Bytes.{Text, text, put, write}
+use borrow.Author.Tests.{le-leb, lt-leb}
+use Rattle.text.specs.Bytes.{Printed, Text, text, put, whole, write}
 
 pub write-append : (a : List ℕ) (s : Text) (b : List ℕ) → write s (a ++ b) ≡ write (write s a) b
 unfolding write
@@ -50,11 +51,21 @@ pub rest-none : (t : Text) (s : List ℕ) (i : ℕ) {g : Text} → length s ≤ 
 unfolding write
 rest-none t s i h q = rw (drop-of-length-le s h) at q
 
--- a text that fits, written from the slice's start: the answer is its length, and the slice begins with it
-pub fits-from-start : (t before after : List ℕ) (r : ℕ) → length t ≤ length before → text after r ≡ write (text before 0) t → (r ≡ length t) × (take r after ≡ t)
-fits-from-start t before after r h w =
-    let e = w ∙ write-fits t before 0 (omega arith) in
-    let er : r ≡ 0 + length t = ap (λ (x : Text). x .at) e in
-    let eb : after ≡ sets before 0 t = ap (λ (x : Text). x .bytes) e in
-    let en : r ≡ length t = omega (arith, er) in
-    (en, rw (eb, sets-eq t before 0 (omega arith)) (take-at t (drop (0 + length t) before) r (sym en)))
+-- a text that fits, written from the slice's start
+pub printed : (t before after : List ℕ) {n r : ℕ} → n ≡ length t → n ≤ length before → text after r ≡ write (text before 0) t → Printed t before n after
+unfolding whole
+printed t before after e h w =
+    let fits : length t ≤ length before = omega (arith, e) in
+    record { size = e; bytes = rw (le-leb (length t) (length before) fits) (ap (λ (x : Text). x .bytes) (w ∙ write-fits t before 0 (omega arith)) ∙ sets-eq t before 0 (omega arith) ∙ ap (λ (n : ℕ). t ++ drop n before) (zero-add (length t))) }
+
+-- one that does not
+pub not-printed : (t before : List ℕ) {n : ℕ} → n ≡ length t → length before < n → Printed t before n before
+unfolding whole
+not-printed t before e h = let long : length before < length t = omega (arith, e) in record { size = e; bytes = rw (lt-leb (length t) (length before) long) }
+
+-- where it fits, the slice begins with it
+pub printed-first : (t before after : List ℕ) (r : ℕ) → length t ≤ length before → Printed t before r after → take r after ≡ t
+unfolding whole
+printed-first t before after r h p =
+    let e : after ≡ t ++ drop (length t) before = p .bytes ∙ rw (le-leb (length t) (length before) h) in
+    rw e (take-at t (drop (length t) before) r (sym (p .size)))
