@@ -1,15 +1,15 @@
--- How long the text of a job file is: over the program's stores at most 65,551 bytes (`text-size`), so that it is written whole
--- (`written-whole`).
+-- How long the text of a job file is: over the program's stores at most 65,551 bytes (`text-size`), so that the program prints it whole
+-- (`job-printed`).
 use Prim.Native.Nat.{_<_, _^_, _≤_, ℕ}
 use lib.Dec.{eqb}
-use lib.ListN.{length}
+use lib.ListN.{length, length-replicate, replicate, take}
 use mathlib.Core.Bool.{Bool, cond, false, true}
 use mathlib.Core.List.{List}
 use mathlib.Core.Path.{_∙_, _≡_, ap, refl, subst, sym}
 use native.Mathlib.Omega.{arith}
 use borrow.Author.Tests.{eqb-true, ne-eqb}
-use Rattle.text.specs.Bytes.{text, write}
-use Rattle.text.proofs.Laws.{fits-from-start}
+use Rattle.text.specs.Bytes.{Printed}
+use Rattle.text.proofs.Laws.{printed-first}
 use Rattle.dimacs.specs.Dimacs.{print-of, refused}
 use Rattle.dimacs.proofs.Sizes.{print-fits, refused-size}
 use Rattle.encoder_read.specs.Calls.{open-outcome}
@@ -20,7 +20,14 @@ use Rattle.job_file.specs.Accepted.{calls-of, switches-of}
 use Rattle.job_file.specs.Run.{JobRun, job-run, run-file}
 use Rattle.job_file.specs.declared.JobAnswer.{JobAnswer}
 use Rattle.job_file.proofs.AcceptedRun.{accepted-is-run}
-use Rattle.job_print.specs.Print.{Whole, answer-of, file-print}
+use Rattle.job_print.specs.Print.{Short, answer-of, file-print, program-print}
+
+-- the literal store of an accepted file is within its bound
+accepted-within : (bytes lits ends : List ℕ) → run-file bytes lits ends .status ≡ 0 → length (run-file bytes lits ends .lits) ≤ 16777216
+accepted-within bytes lits ends h =
+    let ran = accepted-is-run bytes lits ends h in
+    let (kept, below, counted) = written-known (switches-of bytes) lits ends (ran .opening) (calls-of bytes) in
+    subst (λ (s : State). length (s .lits) ≤ 16777216) (sym (ran .calls)) (kept .lits-max)
 
 module _ (bytes lits ends : List ℕ) (long-lits : length lits ≤ 8192) (long-ends : length ends ≤ 4096) where
   -- the print of an accepted file
@@ -50,27 +57,38 @@ module _ (bytes lits ends : List ℕ) (long-lits : length lits ≤ 8192) (long-e
         go true e = accepted-size (eqb-true (r .status) 0 e)
         go false e = omega (arith, refused-size (r .field) (r .status) field status)
 
-pub written-whole : (bytes lits ends : List ℕ) → run-file bytes lits ends .field < 2 ^ 32 → run-file bytes lits ends .status < 2 ^ 32
-    → (out after : List ℕ) (r : ℕ) → text after r ≡ write (text out 0) (file-print bytes lits ends) → Whole lits ends out (file-print bytes lits ends) r after
-written-whole bytes lits ends f n out after r w a b c =
-    fits-from-start (file-print bytes lits ends) out after r (omega (arith, text-size bytes lits ends a b f n)) w
-
 -- What `print_file` ensures, where the run answered a and left these stores ------------------------------------------
 
-module _ (bytes lits ends : List ℕ) (a : JobAnswer) (lits₁ ends₁ : List ℕ) (ran : job-run a lits₁ ends₁ ≡ run-file bytes lits ends) (field : a .field < 2 ^ 32)
-    (status : a .status < 2 ^ 32) (out after : List ℕ) (r : ℕ) where
-  abbrev Written : Type 0
-  Written = (text after r ≡ write (text out 0) (file-print bytes lits ends)) × Whole lits ends out (file-print bytes lits ends) r after
+module _ (bytes lits ends : List ℕ) (a : JobAnswer) (lits₁ ends₁ : List ℕ) (ran : job-run a lits₁ ends₁ ≡ run-file bytes lits ends) where
+  -- the literal store of an accepted file is within its bound
+  pub store-within : a .status ≡ 0 → length lits₁ ≤ 16777216
+  store-within h = subst (λ (j : JobRun). length (j .lits) ≤ 16777216) (sym ran) (accepted-within bytes lits ends (ap (λ (j : JobRun). j .status) (sym ran) ∙ h))
 
-  written : (t : List ℕ) → answer-of (job-run a lits₁ ends₁) ≡ t → text after r ≡ write (text out 0) t → Written
-  written t e w =
-      let here = w ∙ ap (write (text out 0)) (sym e ∙ ap answer-of ran) in
-      (here, written-whole bytes lits ends (subst (λ (j : JobRun). j .field < 2 ^ 32) ran field) (subst (λ (j : JobRun). j .status < 2 ^ 32) ran status) out after r here)
+  module _ (field : a .field < 2 ^ 32) (status : a .status < 2 ^ 32) (out after : List ℕ) (r : ℕ) where
+    abbrev Answered : Type 0
+    Answered = Printed (file-print bytes lits ends) out r after × Short lits ends r
 
-  pub refusal-written : (a .status ≡ 0 → ⊥) → text after r ≡ write (text out 0) (refused (a .field) (a .status)) → Written
-  unfolding answer-of
-  refusal-written h w = written _ (rw (ne-eqb (a .status) 0 h)) w
+    answered : (t : List ℕ) → answer-of (job-run a lits₁ ends₁) ≡ t → Printed t out r after → Answered
+    answered t e p =
+        let here : Printed (file-print bytes lits ends) out r after = subst (λ (x : List ℕ). Printed x out r after) (sym e ∙ ap answer-of ran) p in
+        let f = subst (λ (j : JobRun). j .field < 2 ^ 32) ran field in
+        let n = subst (λ (j : JobRun). j .status < 2 ^ 32) ran status in
+        (here, λ x y. omega (arith, here .size, text-size bytes lits ends x y f n))
 
-  pub print-written : a .status ≡ 0 → text after r ≡ write (text out 0) (print-of (a .env) lits₁ ends₁) → Written
-  unfolding answer-of
-  print-written h w = written _ (rw h) w
+    pub refusal-printed : (a .status ≡ 0 → ⊥) → Printed (refused (a .field) (a .status)) out r after → Answered
+    unfolding answer-of
+    refusal-printed h p = answered _ (rw (ne-eqb (a .status) 0 h)) p
+
+    pub clauses-printed : a .status ≡ 0 → Printed (print-of (a .env) lits₁ ends₁) out r after → Answered
+    unfolding answer-of
+    clauses-printed h p = answered _ (rw h) p
+
+-- What `print_job` ensures: every text fits -------------------------------------------------------------------------
+
+pub job-printed : (bytes out after : List ℕ) (r : ℕ) → 65551 ≤ length out → length after ≡ length out
+    → Printed (file-print bytes (replicate 8192 0) (replicate 4096 0)) out r after × Short (replicate 8192 0) (replicate 4096 0) r
+    → (r ≤ length after) × (take r after ≡ program-print bytes)
+unfolding program-print
+job-printed bytes out after r h n p =
+    let short : r ≤ 65551 = p .1 (rw length-replicate (omega arith)) (rw length-replicate (omega arith)) in
+    (omega (arith, n), printed-first _ out after r (omega (arith, p .0 .size)) (p .0))

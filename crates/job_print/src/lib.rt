@@ -1,18 +1,32 @@
 // The text of a job file: the print of its clauses, or its refusal.
 ghost use mathlib.Core.Path.{_≡_};
-ghost use Rattle.text.specs.Bytes.{text as text-of, write};
-ghost use Rattle.job_print.specs.Print.{Whole, file-print};
+ghost use Prim.Native.Nat.{_≤_};
+ghost use lib.ListN.{length, take};
+ghost use Rattle.text.specs.Bytes.{Printed};
+ghost use Rattle.job_print.specs.Print.{Short, file-print, program-print};
 
-// Runs the job file on the lent stores and writes its text from the start of `out`. What passes the end of `out` is dropped.
+// Runs the job file on the lent stores and answers how many bytes its text has. The text is written from the start of `out`, or not at
+// all where `out` is shorter.
 pub fn print_file(bytes: &[u8], lits: &mut [u32], ends: &mut [u32], out: &mut [u8]) -> usize
-    ensures { λ r. ⌜ text-of (now (out .exit)) r ≡ write (text-of (now (out .entry)) 0) (file-print (now (bytes .entry)) (now (lits .entry)) (now (ends .entry))) ⌝ }
-    ensures { λ r. ⌜ Whole (now (lits .entry)) (now (ends .entry)) (now (out .entry)) (file-print (now (bytes .entry)) (now (lits .entry)) (now (ends .entry))) r (now (out .exit)) ⌝ }
+    ensures { λ r. ⌜ Printed (file-print (now (bytes .entry)) (now (lits .entry)) (now (ends .entry))) (now (out .entry)) r (now (out .exit)) ⌝ }
+    ensures { λ r. ⌜ Short (now (lits .entry)) (now (ends .entry)) r ⌝ }
 {
     let a = job_file::run(bytes, lits, ends);
     let status = a.status;
     if status != 0 {
-        return dimacs::put_refused(out, a.field, status);
+        return dimacs::print_refused(out, a.field, status);
     }
     let env = a.env;
-    dimacs::put_dimacs(out, env, lits, ends)
+    dimacs::print_dimacs(out, env, lits, ends)
+}
+
+// The same for the first n bytes of a program's input, on the program's own stores. The input is one byte longer than a job file may be, so
+// that one that is too long is seen, and every text fits.
+pub fn print_job(input: &[u8], n: usize, out: &mut [u8]) -> usize
+    requires { ⌜ (8193 ≤ length (now input)) × (n ≤ length (now input)) × (65551 ≤ length (now out)) ⌝ }
+    ensures { λ r. ⌜ (r ≤ length (now (out .exit))) × (take r (now (out .exit)) ≡ program-print (take n (now (input .entry)))) ⌝ }
+{
+    let mut lits = [0u32; 8192];
+    let mut ends = [0u32; 4096];
+    print_file(&input[..n], &mut lits, &mut ends, out)
 }
