@@ -20,7 +20,7 @@ use Rattle.job_file.specs.Accepted.{calls-of, switches-of}
 use Rattle.job_file.specs.Run.{JobRun, job-run, run-file}
 use Rattle.job_file.specs.declared.JobAnswer.{JobAnswer}
 use Rattle.job_file.proofs.AcceptedRun.{accepted-is-run}
-use Rattle.job_print.specs.Print.{Short, answer-of, file-print, program-print}
+use Rattle.job_print.specs.Print.{FilePrinted, answer-of, file-print, program-print}
 
 -- the literal store of an accepted file is within its bound
 accepted-within : (bytes lits ends : List ℕ) → run-file bytes lits ends .status ≡ 0 → length (run-file bytes lits ends .lits) ≤ 16777216
@@ -66,14 +66,19 @@ module _ (bytes lits ends : List ℕ) (a : JobAnswer) (lits₁ ends₁ : List �
 
   module _ (field : a .field < 2 ^ 32) (status : a .status < 2 ^ 32) (out after : List ℕ) (r : ℕ) where
     abbrev Answered : Type 0
-    Answered = Printed (file-print bytes lits ends) out r after × Short lits ends r
+    Answered = FilePrinted bytes lits ends out r lits₁ ends₁ after
 
     answered : (t : List ℕ) → answer-of (job-run a lits₁ ends₁) ≡ t → Printed t out r after → Answered
     answered t e p =
         let here : Printed (file-print bytes lits ends) out r after = subst (λ (x : List ℕ). Printed x out r after) (sym e ∙ ap answer-of ran) p in
         let f = subst (λ (j : JobRun). j .field < 2 ^ 32) ran field in
         let n = subst (λ (j : JobRun). j .status < 2 ^ 32) ran status in
-        (here, λ x y. omega (arith, here .size, text-size bytes lits ends x y f n))
+        record {
+          printed = here;
+          lits-are = ap (λ (j : JobRun). j .lits) ran;
+          ends-are = ap (λ (j : JobRun). j .ends) ran;
+          short = λ x y. omega (arith, here .size, text-size bytes lits ends x y f n);
+        }
 
     pub refusal-printed : (a .status ≡ 0 → ⊥) → Printed (refused (a .field) (a .status)) out r after → Answered
     unfolding answer-of
@@ -86,9 +91,9 @@ module _ (bytes lits ends : List ℕ) (a : JobAnswer) (lits₁ ends₁ : List �
 -- What `print_job` ensures: every text fits -------------------------------------------------------------------------
 
 pub job-printed : (bytes out after : List ℕ) (r : ℕ) → 65551 ≤ length out → length after ≡ length out
-    → Printed (file-print bytes (replicate 8192 0) (replicate 4096 0)) out r after × Short (replicate 8192 0) (replicate 4096 0) r
+    → {lits ends : List ℕ} → FilePrinted bytes (replicate 8192 0) (replicate 4096 0) out r lits ends after
     → (r ≤ length after) × (take r after ≡ program-print bytes)
 unfolding program-print
 job-printed bytes out after r h n p =
-    let short : r ≤ 65551 = p .1 (rw length-replicate (omega arith)) (rw length-replicate (omega arith)) in
-    (omega (arith, n), printed-first _ out after r (omega (arith, p .0 .size)) (p .0))
+    let short : r ≤ 65551 = p .short (rw length-replicate (omega arith)) (rw length-replicate (omega arith)) in
+    (omega (arith, n), printed-first _ out after r (omega (arith, p .printed .size)) (p .printed))

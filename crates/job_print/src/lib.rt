@@ -2,14 +2,12 @@
 ghost use mathlib.Core.Path.{_≡_};
 ghost use Prim.Native.Nat.{_≤_};
 ghost use lib.ListN.{length, take};
-ghost use Rattle.text.specs.Bytes.{Printed};
-ghost use Rattle.job_print.specs.Print.{Short, file-print, program-print};
+ghost use Rattle.job_print.specs.Print.{FilePrinted, program-print};
 
 // Runs the job file on the lent stores and answers how many bytes its text has. The text is written from the start of `out`, or not at
 // all where `out` is shorter.
 pub fn print_file(bytes: &[u8], lits: &mut [u32], ends: &mut [u32], out: &mut [u8]) -> usize
-    ensures { λ r. ⌜ Printed (file-print (now (bytes .entry)) (now (lits .entry)) (now (ends .entry))) (now (out .entry)) r (now (out .exit)) ⌝ }
-    ensures { λ r. ⌜ Short (now (lits .entry)) (now (ends .entry)) r ⌝ }
+    ensures { λ r. ⌜ FilePrinted (now (bytes .entry)) (now (lits .entry)) (now (ends .entry)) (now (out .entry)) r (now (lits .exit)) (now (ends .exit)) (now (out .exit)) ⌝ }
 {
     let a = job_file::run(bytes, lits, ends);
     let status = a.status;

@@ -1,8 +1,6 @@
 // A job file's run and its text for callers in C and Rust (`rt staticlib sumirewha`): a slice is a pointer and a length.
-ghost use mathlib.Core.Path.{_≡_};
-ghost use Rattle.text.specs.Bytes.{text as text-of, write};
 ghost use Rattle.job_file.specs.Run.{run-file};
-ghost use Rattle.job_print.specs.Print.{file-print};
+ghost use Rattle.job_print.specs.Print.{FilePrinted};
 ghost use Rattle.sumirewha.specs.Encoded.{Encoded};
 use clause_set::put;
 
@@ -25,7 +23,8 @@ pub extern "C" fn sumirewha_encode(
     a.status
 }
 
-// Runs the job file and writes what `cnf` prints for it into `out`. Answers how many bytes; what passes the end of `out` is dropped.
+// Runs the job file on the lent stores and answers how many bytes the text has that `cnf` prints for it. The text is written from the start
+// of `out`, or not at all where `out` is shorter.
 #[no_mangle]
 pub extern "C" fn sumirewha_print(
     bytes: &[u8],
@@ -33,7 +32,7 @@ pub extern "C" fn sumirewha_print(
     ends: &mut [u32],
     out: &mut [u8],
 ) -> usize
-    ensures { λ r. ⌜ text-of (now (out .exit)) r ≡ write (text-of (now (out .entry)) 0) (file-print (now (bytes .entry)) (now (lits .entry)) (now (ends .entry))) ⌝ }
+    ensures { λ r. ⌜ FilePrinted (now (bytes .entry)) (now (lits .entry)) (now (ends .entry)) (now (out .entry)) r (now (lits .exit)) (now (ends .exit)) (now (out .exit)) ⌝ }
 {
     job_print::print_file(bytes, lits, ends, out)
 }
