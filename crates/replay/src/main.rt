@@ -1,21 +1,35 @@
 // Answers the script of calls on standard input (crate `script` says how), from a job and stores of all 0.
-use libc::STDIN_FILENO;
+use script::Part;
+use streams::Input;
 ghost use Prim.Native.Nat.{_≤_};
 ghost use lib.ListN.{length};
+ghost use Rattle.script.specs.Run.{Lent};
 
-// Reads and answers until the input ends or a line cannot be read. (No input has 2 ^ 64 times 65,536 bytes.)
+// The end of a run.
+fn end_run(part: Part, nums: &mut [i64], lits: &mut [u32], ends: &mut [u32])
+    requires { ⌜ Lent (part .run) (now lits) (now ends) ⌝ }
+{
+    if !script::finish(part, nums, lits, ends) {
+        streams::cannot_write();
+    }
+}
+
+// Reads and answers until the input ends, a line cannot be read, or reading or writing fails. (No input has 2 ^ 64 times 65,536 bytes.)
 fn run_input(input: &mut [u8], nums: &mut [i64], lits: &mut [u32], ends: &mut [u32])
     requires { ⌜ (8192 ≤ length (now lits)) × (4096 ≤ length (now ends)) ⌝ }
 {
     let mut part = script::start();
     let mut turns: u64 = 18446744073709551615;
     while turns > 0 {
-        let n = io::read_full(STDIN_FILENO, input);
+        let Input::Bytes(n) = streams::read_input(input) else {
+            streams::cannot_read();
+            return;
+        };
         let next = script::run_part(&input[..n], part, nums, lits, ends);
         part = next;
         let run = part.run;
-        if n < input.len() || !run.good {
-            script::finish(part, nums, lits, ends);
+        if n < input.len() || script::stops(run) {
+            end_run(part, nums, lits, ends);
             return;
         }
         turns -= 1;

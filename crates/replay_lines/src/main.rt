@@ -1,19 +1,19 @@
 // Answers each line of standard input as a script of its own (crate `script`): a line that cannot be read prints `bad line 1`, and the
 // next is answered all the same. So one input tries lines of every kind.
-use libc::STDIN_FILENO;
 use script::Part;
+use streams::Input;
 ghost use Prim.Native.Nat.{_≤_};
 ghost use lib.ListN.{length};
 
-// One line, on a job and stores of all 0.
-fn run_line(line: lines::Line, nums: &mut [i64], lits: &mut [u32], ends: &mut [u32])
+// One line, on a job and stores of all 0. Answers whether its answer could be written.
+fn run_line(line: lines::Line, nums: &mut [i64], lits: &mut [u32], ends: &mut [u32]) -> bool
     requires { ⌜ (8192 ≤ length (now lits)) × (4096 ≤ length (now ends)) ⌝ }
 {
     script_state::clear(lits);
     script_state::clear(ends);
     let start = script::start();
     let run = start.run;
-    script::finish(Part { line, run }, nums, lits, ends);
+    script::finish(Part { line, run }, nums, lits, ends)
 }
 
 fn run_lines(s: &[u8], nums: &mut [i64], lits: &mut [u32], ends: &mut [u32])
@@ -23,7 +23,10 @@ fn run_lines(s: &[u8], nums: &mut [i64], lits: &mut [u32], ends: &mut [u32])
     while at < s.len() {
         let fed = lines::feed(nums, lines::line_start(), s, at);
         let line = fed.line;
-        run_line(line, nums, lits, ends);
+        if !run_line(line, nums, lits, ends) {
+            streams::cannot_write();
+            return;
+        }
         at = fed.next;
     }
 }
@@ -32,7 +35,10 @@ fn run_lines(s: &[u8], nums: &mut [i64], lits: &mut [u32], ends: &mut [u32])
 fn run_input(input: &mut [u8], nums: &mut [i64], lits: &mut [u32], ends: &mut [u32])
     requires { ⌜ (8192 ≤ length (now lits)) × (4096 ≤ length (now ends)) ⌝ }
 {
-    let n = io::read_full(STDIN_FILENO, input);
+    let Input::Bytes(n) = streams::read_input(input) else {
+        streams::cannot_read();
+        return;
+    };
     run_lines(&input[..n], nums, lits, ends);
 }
 

@@ -14,7 +14,7 @@ use encoder_env::EncoderEnv;
 use lines::Line;
 use lines::Unsigned;
 use lines::Word;
-use script_calls::Next;
+use words::Answered;
 ghost use mathlib.Core.Path.{_≡_};
 ghost use Prim.Native.Nat.{_≤_};
 ghost use Rattle.script.specs.Run.{Lent};
@@ -29,10 +29,12 @@ pub struct Run {
     pub number: u64,
     // whether each of them could be read
     pub good: bool,
+    // whether all answers could be written
+    pub written: bool,
 }
 
 // The run after a line that left this job.
-fn with_job(run: Run, next: Next) -> Run
+fn with_job(run: Run, next: Answered) -> Run
     ensures { λ r. ⌜ (r .lits ≡ run .lits) × (r .ends ≡ run .ends) ⌝ }
 {
     let env = next.env;
@@ -42,6 +44,7 @@ fn with_job(run: Run, next: Next) -> Run
         ends: run.ends,
         number: run.number,
         good: next.good,
+        written: next.written,
     }
 }
 
@@ -56,6 +59,7 @@ fn with_stores(run: Run, lits: usize, ends: usize) -> Run
         ends,
         number: run.number,
         good: run.good,
+        written: run.written,
     }
 }
 
@@ -70,6 +74,7 @@ fn stopped(run: Run) -> Run
         ends: run.ends,
         number: run.number,
         good: false,
+        written: run.written,
     }
 }
 
@@ -89,7 +94,13 @@ fn with_line(run: Run) -> Run
             number
         },
         good: run.good,
+        written: run.written,
     }
+}
+
+// Whether a line could not be read or an answer not be written.
+pub fn stops(run: Run) -> bool {
+    !run.good || !run.written
 }
 
 // A store's length, if it is within bounds.
@@ -174,7 +185,7 @@ pub struct Part {
     pub run: Run,
 }
 
-// The bytes at hand, up to their end or a line that cannot be read.
+// The bytes at hand, up to their end, a line that cannot be read or an answer that cannot be written.
 pub fn run_part(s: &[u8], part: Part, nums: &mut [i64], lits: &mut [u32], ends: &mut [u32]) -> Part
     requires { ⌜ Lent (part .run) (now lits) (now ends) ⌝ }
     ensures { λ r. ⌜ Lent (r .run) (now (lits .exit)) (now (ends .exit)) ⌝ }
@@ -195,7 +206,7 @@ pub fn run_part(s: &[u8], part: Part, nums: &mut [i64], lits: &mut [u32], ends: 
         let next = end_line(fed_line, nums, run, lits, ends);
         run = next;
         line = lines::line_start();
-        if !run.good {
+        if stops(run) {
             return Part { line, run };
         }
         at = fed.next;
@@ -214,6 +225,7 @@ pub fn start() -> Part
         ends: 4096,
         number: 0,
         good: true,
+        written: true,
     };
     Part {
         line: lines::line_start(),
@@ -221,21 +233,23 @@ pub fn start() -> Part
     }
 }
 
-// The last line may lack its line feed. A line that cannot be read is named.
-pub fn finish(part: Part, nums: &mut [i64], lits: &mut [u32], ends: &mut [u32])
+// The line that ends a run where it cannot be read. Answers whether all could be written.
+fn ended(run: Run) -> bool {
+    if !run.written || run.good {
+        return run.written;
+    }
+    print::bad_line(run.number)
+}
+
+// The last line may lack its line feed. A line that cannot be read is named. Answers whether all could be written.
+pub fn finish(part: Part, nums: &mut [i64], lits: &mut [u32], ends: &mut [u32]) -> bool
     requires { ⌜ Lent (part .run) (now lits) (now ends) ⌝ }
 {
     let line = part.line;
     let run = part.run;
-    if !run.good {
-        print::bad_line(run.number);
-        return;
-    }
-    if lines::is_empty(line) {
-        return;
+    if stops(run) || lines::is_empty(line) {
+        return ended(run);
     }
     let last = end_line(line, nums, run, lits, ends);
-    if !last.good {
-        print::bad_line(last.number);
-    }
+    ended(last)
 }

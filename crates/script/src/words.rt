@@ -1,13 +1,45 @@
 // One line of a script: what its word asks for, on the job and the lent stores.
+use super::print;
 use encoder_env::EncoderEnv;
 use lines::Unsigned;
 use lines::Word;
 use script_calls::Next;
-use script_calls::bad;
-use script_calls::good;
+
+// The job after a line, whether the line could be read, and whether all of its answer could be written.
+pub struct Answered {
+    pub env: EncoderEnv,
+    pub good: bool,
+    pub written: bool,
+}
+
+// A line that was read, its answer written or not.
+fn read_line(env: EncoderEnv, written: bool) -> Answered {
+    Answered {
+        env,
+        good: true,
+        written,
+    }
+}
+
+// A line that cannot be read: the job stays.
+fn bad(env: EncoderEnv) -> Answered {
+    Answered {
+        env,
+        good: false,
+        written: true,
+    }
+}
+
+// The literals of a clause handed back.
+fn put_part(status: u32, part: &[u32]) -> bool {
+    if status != 0 {
+        return true;
+    }
+    print::text(b" :") && print::entries(part)
+}
 
 // `clause K`
-fn clause(nums: &[i64], env: EncoderEnv, lits: &[u32], ends: &[u32]) -> Next {
+fn clause(nums: &[i64], env: EncoderEnv, lits: &[u32], ends: &[u32]) -> Answered {
     if nums.len() != 1 {
         return bad(env);
     }
@@ -16,25 +48,20 @@ fn clause(nums: &[i64], env: EncoderEnv, lits: &[u32], ends: &[u32]) -> Next {
     };
     let mut status: u32 = 0;
     let part = encoder::clause(env, lits, ends, k, &mut status);
-    super::print::answer(status, 0, env);
-    if status == 0 {
-        super::print::text(b" :");
-        super::print::entries(part);
-    }
-    super::print::text(b"\n");
-    good(env)
+    let written = print::answer(status, 0, env) && put_part(status, part) && print::text(b"\n");
+    read_line(env, written)
 }
 
 // `job ..`
-fn job(nums: &[i64], env: EncoderEnv) -> Next {
+fn job(nums: &[i64], env: EncoderEnv) -> Answered {
     if script_state::is_job(nums) {
-        return good(script_state::job_of(nums));
+        return read_line(script_state::job_of(nums), true);
     }
     bad(env)
 }
 
 // `lits I X`, `ends I X`
-fn entry(nums: &[i64], env: EncoderEnv, store: &mut [u32]) -> Next {
+fn entry(nums: &[i64], env: EncoderEnv, store: &mut [u32]) -> Answered {
     if nums.len() != 2 {
         return bad(env);
     }
@@ -49,31 +76,27 @@ fn entry(nums: &[i64], env: EncoderEnv, store: &mut [u32]) -> Next {
         return bad(env);
     }
     store[at] = x;
-    good(env)
+    read_line(env, true)
 }
 
 // `show`
-fn show(nums: &[i64], env: EncoderEnv, lits: &[u32], ends: &[u32]) -> Next {
+fn show(nums: &[i64], env: EncoderEnv, lits: &[u32], ends: &[u32]) -> Answered {
     if nums.len() != 0 {
         return bad(env);
     }
-    super::print::job(env);
-    super::print::text(b"lits");
-    super::print::entries(lits);
-    super::print::text(b"\nends");
-    super::print::entries(ends);
-    super::print::text(b"\n");
-    good(env)
+    let first = print::job(env) && print::text(b"lits") && print::entries(lits);
+    let written = first && print::text(b"\nends") && print::entries(ends) && print::text(b"\n");
+    read_line(env, written)
 }
 
 // The answer of a call is printed.
-fn printed(next: Next) -> Next {
+fn printed(next: Next) -> Answered {
     let env = next.env;
-    if next.good {
-        super::print::answer(next.status, next.value, env);
-        super::print::text(b"\n");
+    if !next.good {
+        return bad(env);
     }
-    next
+    let written = print::answer(next.status, next.value, env) && print::text(b"\n");
+    read_line(env, written)
 }
 
 // Every word but `stores`.
@@ -83,7 +106,7 @@ pub fn answer(
     env: EncoderEnv,
     lits: &mut [u32],
     ends: &mut [u32],
-) -> Next {
+) -> Answered {
     if lines::is_word(word, b"read") {
         return printed(script_calls::read(nums, env, lits, ends));
     }

@@ -38,6 +38,9 @@ end-line-requires c κs = search needs
 line-start-requires : tie.Need-line-start-requires Inv-loop μ-loop
 line-start-requires c κs = search needs
 
+stops-requires : tie.Need-stops-requires Inv-loop μ-loop
+stops-requires c κs = search needs
+
 same-length-4 : tie.Need-same-length-4 Inv-loop μ-loop
 same-length-4 c = omega (arith, c .before .before .before .before .before .before .before .before .before .before .before .before .before .before .before .before .before .before .loop .inv, c .before .before .before .before .before .before .before .before .before .before .before .before .before .before .before .feed .kept, c .before .before .before .before .before .before .before .before .end-line .kept)
 
@@ -51,12 +54,13 @@ returns-2 : tie.Need-returns-2 Inv-loop μ-loop
 returns-2 c = search needs
 
 loop-less : tie.Need-loop-less Inv-loop μ-loop
-loop-less c =
-    let b = c .before .before .before .before .before .before .before .before .before .before .before .before .before .before .before in
-    omega (arith, b .feed .ensures .fed .from, b .feed .ensures .next, b .before .before .loop-test .taken)
+loop-less c = search needs
 
 loop-again : tie.Need-loop-again Inv-loop μ-loop
-loop-again c = (omega (arith, c .before .before .before .before .before .before .before .before .before .before .before .before .before .before .before .before .before .before .loop .inv .0, c .before .before .before .before .before .before .before .before .end-line .kept), omega (arith, c .before .before .before .before .before .before .before .before .before .before .before .before .before .before .before .before .before .before .loop .inv .1, c .before .before .before .before .before .before .before .before .end-line .kept), omega (arith, c .before .before .before .before .before .before .before .before .before .before .before .before .before .before .before .before .before .before .loop .inv .2, c .before .before .before .before .before .before .before .before .before .before .before .before .before .before .before .feed .kept, c .before .before .before .before .before .before .before .before .end-line .kept), c .before .before .before .before .before .before .before .before .end-line .ensures)
+loop-again c =
+    let inv = c .before .before .before .before .before .before .before .before .before .before .before .before .before .before .before .before .before .before .loop .inv in
+    let e = c .before .before .before .before .before .before .before .before .end-line in
+    (omega (arith, inv .0, e .kept), omega (arith, inv .1, e .kept), omega (arith, inv .2, c .before .before .before .before .before .before .before .before .before .before .before .before .before .before .before .feed .kept, e .kept), e .ensures)
 
 same-length-7 : tie.Need-same-length-7 Inv-loop μ-loop
 same-length-7 c = search needs
@@ -84,6 +88,7 @@ run-part-spec =
     returns
     end-line-requires
     line-start-requires
+    stops-requires
     same-length-4
     same-length-5
     same-length-6

@@ -21,6 +21,9 @@ slice-aggregate-flush c = search needs
 flush-requires : tie.Need-flush-requires Inv-loop μ-loop
 flush-requires c κs = search needs
 
+returns : tie.Need-returns Inv-loop μ-loop
+returns c = search needs
+
 slice-aggregate-put-number : tie.Need-slice-aggregate-put-number Inv-loop μ-loop
 slice-aggregate-put-number c = search needs
 
@@ -48,8 +51,8 @@ slice-aggregate-flush-2 c = search needs
 flush-requires-2 : tie.Need-flush-requires-2 Inv-loop μ-loop
 flush-requires-2 c κs = search needs
 
-returns : tie.Need-returns Inv-loop μ-loop
-returns c = search needs
+returns-2 : tie.Need-returns-2 Inv-loop μ-loop
+returns-2 c = search needs
 
 pub entries-spec : {M : Type 1} → statement M
 entries-spec =
@@ -60,6 +63,7 @@ entries-spec =
     loop-holds
     slice-aggregate-flush
     flush-requires
+    returns
     slice-aggregate-put-number
     mul-put-number
     shared-slice-read-put-number
@@ -69,4 +73,4 @@ entries-spec =
     loop-again
     slice-aggregate-flush-2
     flush-requires-2
-    returns)
+    returns-2)

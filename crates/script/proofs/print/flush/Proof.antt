@@ -5,17 +5,17 @@ use borrow.Author.Needs.{needs}
 use Rattle.script.proofs.print.flush.Statement.{statement}
 use Rattle.script.proofs.print.flush.Tie as tie
 
+returns : tie.Need-returns
+returns c = search needs
+
 slice-aggregate-write-all : tie.Need-slice-aggregate-write-all
-slice-aggregate-write-all c = sym (length-take-le _ _ (c .before .if1 .taken))
+slice-aggregate-write-all c = sym (length-take-le _ _ (c .before .if1 .left))
 
 write-all-requires : tie.Need-write-all-requires
 write-all-requires c κs = search needs
-
-returns : tie.Need-returns
-returns c = search needs
 
 returns-2 : tie.Need-returns-2
 returns-2 c = search needs
 
 pub flush-spec : {M : Type 1} → statement M
-flush-spec = tie.close (tie.spec slice-aggregate-write-all write-all-requires returns returns-2)
+flush-spec = tie.close (tie.spec returns slice-aggregate-write-all write-all-requires returns-2)

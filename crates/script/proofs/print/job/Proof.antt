@@ -5,10 +5,10 @@ use Rattle.script.proofs.print.job.Statement.{statement}
 use Rattle.script.proofs.print.job.Tie as tie
 
 abbrev Inv-loop : tie.InvT-loop
-Inv-loop env at i₀ t8 i = i ≤ 32
+Inv-loop env at written₀ i₀ t9 written i = i ≤ 32
 
 abbrev μ-loop : tie.MeasureT-loop
-μ-loop env at i₀ t8 i = 32 - i
+μ-loop env at written₀ i₀ t9 written i = 32 - i
 
 slice-aggregate-put-number : tie.Need-slice-aggregate-put-number Inv-loop μ-loop
 slice-aggregate-put-number c = search needs
@@ -82,6 +82,9 @@ text-requires-2 c κs = search needs
 returns : tie.Need-returns Inv-loop μ-loop
 returns c = search needs
 
+returns-2 : tie.Need-returns-2 Inv-loop μ-loop
+returns-2 c = search needs
+
 pub job-spec : {M : Type 1} → statement M
 job-spec =
     tie.close
@@ -111,4 +114,5 @@ job-spec =
     loop-again
     slice-aggregate-text-2
     text-requires-2
-    returns)
+    returns
+    returns-2)
