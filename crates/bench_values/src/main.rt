@@ -4,13 +4,13 @@
 mod heights;
 
 use encoder_env::EncoderEnv;
-use libc::STDIN_FILENO;
 use libc::STDOUT_FILENO;
 use lines::Line;
 use lines::Word;
 use script_calls::Next;
 use script_calls::bad;
 use script_calls::good;
+use streams::Input;
 
 // The greatest height that the call of a line reaches on this job.
 fn height(word: Word, nums: &[i64], env: EncoderEnv, lits: usize, ends: usize) -> u32 {
@@ -28,11 +28,25 @@ fn height(word: Word, nums: &[i64], env: EncoderEnv, lits: usize, ends: usize) -
 }
 
 // `STATUS HEIGHT`
-fn show(status: u32, height: u32) {
-    io::print_decimal(STDOUT_FILENO, status as u64);
-    io::write_all(STDOUT_FILENO, b" ");
-    io::print_decimal(STDOUT_FILENO, height as u64);
-    io::write_all(STDOUT_FILENO, b"\n");
+fn show(status: u32, height: u32) -> bool {
+    io::print_decimal(STDOUT_FILENO, status as u64)
+        && io::write_all(STDOUT_FILENO, b" ")
+        && io::print_decimal(STDOUT_FILENO, height as u64)
+        && io::write_all(STDOUT_FILENO, b"\n")
+}
+
+// The job after a line, whether the line could be read, and whether its answer could be written.
+struct Answered {
+    next: Next,
+    written: bool,
+}
+
+// A line that prints nothing.
+fn silent(next: Next) -> Answered {
+    Answered {
+        next,
+        written: true,
+    }
 }
 
 // Whether these are the lengths that both stores have here.
@@ -44,19 +58,26 @@ fn are_lengths(nums: &[i64]) -> bool {
 }
 
 // A line with this word and these integers.
-fn answer(word: Word, nums: &[i64], env: EncoderEnv, lits: &mut [u32], ends: &mut [u32]) -> Next {
+fn answer(
+    word: Word,
+    nums: &[i64],
+    env: EncoderEnv,
+    lits: &mut [u32],
+    ends: &mut [u32],
+) -> Answered {
     if lines::is_word(word, b"stores") {
         if are_lengths(nums) {
-            return good(env);
+            return silent(good(env));
         }
-        return bad(env);
+        return silent(bad(env));
     }
     let most = height(word, nums, env, lits.len(), ends.len());
     let next = script_calls::call(word, nums, env, lits, ends);
-    if next.good {
-        show(next.status, most);
+    if !next.good {
+        return silent(next);
     }
-    next
+    let written = show(next.status, most);
+    Answered { next, written }
 }
 
 // A line that ends here.
@@ -66,38 +87,47 @@ fn end_line(
     env: EncoderEnv,
     lits: &mut [u32],
     ends: &mut [u32],
-) -> Next {
+) -> Answered {
     let whole = lines::line_whole(nums, line);
     let word = whole.word;
     let numbers = whole.numbers;
     let n = numbers.count;
     if !numbers.good {
-        return bad(env);
+        return silent(bad(env));
     }
     answer(word, &nums[..n], env, lits, ends)
 }
 
-// All lines, from the job of all 0.
-fn run(s: &[u8], nums: &mut [i64], lits: &mut [u32], ends: &mut [u32]) {
+// All lines, from the job of all 0. Answers whether all could be written.
+fn run(s: &[u8], nums: &mut [i64], lits: &mut [u32], ends: &mut [u32]) -> bool {
     let mut env = encoder_read::opened(0);
     let mut at: usize = 0;
     while at < s.len() {
         let fed = lines::feed(nums, lines::line_start(), s, at);
         let line = fed.line;
-        let next = end_line(line, nums, env, lits, ends);
+        let answered = end_line(line, nums, env, lits, ends);
+        let next = answered.next;
+        if !answered.written {
+            return false;
+        }
         if !next.good {
-            io::write_all(STDOUT_FILENO, b"bad line\n");
-            return;
+            return io::write_all(STDOUT_FILENO, b"bad line\n");
         }
         env = next.env;
         at = fed.next;
     }
+    true
 }
 
 // The lines of standard input, up to the length of `input`.
 fn run_input(input: &mut [u8], nums: &mut [i64], lits: &mut [u32], ends: &mut [u32]) {
-    let n = io::read_full(STDIN_FILENO, input);
-    run(&input[..n], nums, lits, ends);
+    let Input::Bytes(n) = streams::read_input(input) else {
+        streams::cannot_read();
+        return;
+    };
+    if !run(&input[..n], nums, lits, ends) {
+        streams::cannot_write();
+    }
 }
 
 // The arrays' types say how long they are, so that the check does not count their entries.

@@ -12,6 +12,9 @@ line-whole-requires c κs = search needs
 bad-requires : tie.Need-bad-requires
 bad-requires c κs = search needs
 
+silent-requires : tie.Need-silent-requires
+silent-requires c κs = search needs
+
 same-length : tie.Need-same-length
 same-length c = search needs
 
@@ -45,6 +48,7 @@ end-line-spec =
     (tie.spec
     line-whole-requires
     bad-requires
+    silent-requires
     same-length
     returns
     slice-reshare-prefix-answer

@@ -28,56 +28,57 @@ feed-requires c κs = search needs
 end-line-requires : tie.Need-end-line-requires Inv-loop μ-loop
 end-line-requires c κs = search needs
 
+same-length : tie.Need-same-length Inv-loop μ-loop
+same-length c = omega (arith, c .before .before .before .before .before .before .before .before .before .before .before .before .before .before .before .before .before .before .loop .inv, c .before .before .before .before .before .before .before .before .before .before .before .before .before .before .feed .kept, c .before .before .before .before .before .before .before .before .end-line .kept)
+
+same-length-2 : tie.Need-same-length-2 Inv-loop μ-loop
+same-length-2 c = omega (arith, c .before .before .before .before .before .before .before .before .before .before .before .before .before .before .before .before .before .before .loop .inv, c .before .before .before .before .before .before .before .before .before .before .before .before .before .before .feed .kept, c .before .before .before .before .before .before .before .before .end-line .kept)
+
+same-length-3 : tie.Need-same-length-3 Inv-loop μ-loop
+same-length-3 c = omega (arith, c .before .before .before .before .before .before .before .before .before .before .before .before .before .before .before .before .before .before .loop .inv, c .before .before .before .before .before .before .before .before .before .before .before .before .before .before .feed .kept, c .before .before .before .before .before .before .before .before .end-line .kept)
+
+returns : tie.Need-returns Inv-loop μ-loop
+returns c = search needs
+
 slice-aggregate-write-all : tie.Need-slice-aggregate-write-all Inv-loop μ-loop
 slice-aggregate-write-all c = search needs
 
 write-all-requires : tie.Need-write-all-requires Inv-loop μ-loop
 write-all-requires c κs = search needs
 
-same-length : tie.Need-same-length Inv-loop μ-loop
-same-length c =
-    let i = c .before .before .before .before .before .before .before .before .before .before .before .before .before .before .before .before .before .before .before .loop .inv in
-    let f = c .before .before .before .before .before .before .before .before .before .before .before .before .before .before .before .feed .kept in
-    omega (arith, i, f, c .before .before .before .before .before .before .before .before .before .end-line .kept)
-
-same-length-2 : tie.Need-same-length-2 Inv-loop μ-loop
-same-length-2 c =
-    let i = c .before .before .before .before .before .before .before .before .before .before .before .before .before .before .before .before .before .before .before .loop .inv in
-    let f = c .before .before .before .before .before .before .before .before .before .before .before .before .before .before .before .feed .kept in
-    omega (arith, i, f, c .before .before .before .before .before .before .before .before .before .end-line .kept)
-
-same-length-3 : tie.Need-same-length-3 Inv-loop μ-loop
-same-length-3 c =
-    let i = c .before .before .before .before .before .before .before .before .before .before .before .before .before .before .before .before .before .before .before .loop .inv in
-    let f = c .before .before .before .before .before .before .before .before .before .before .before .before .before .before .before .feed .kept in
-    omega (arith, i, f, c .before .before .before .before .before .before .before .before .before .end-line .kept)
-
-returns : tie.Need-returns Inv-loop μ-loop
-returns c = search needs
-
-loop-less : tie.Need-loop-less Inv-loop μ-loop
-loop-less c =
-    let b = c .before .before .before .before .before .before .before .before .before .before .before .before .before .before in
-    omega (arith, b .feed .ensures .fed .from, b .feed .ensures .next, b .before .before .before .loop-test .taken)
-
-loop-again : tie.Need-loop-again Inv-loop μ-loop
-loop-again c =
-    let i = c .before .before .before .before .before .before .before .before .before .before .before .before .before .before .before .before .before .before .loop .inv in
-    let f = c .before .before .before .before .before .before .before .before .before .before .before .before .before .before .feed .kept in
-    let k = c .before .before .before .before .before .before .before .before .end-line .kept in
-    (omega (arith, i .0, k), omega (arith, i .1, k), omega (arith, i .2, f, k))
-
 same-length-4 : tie.Need-same-length-4 Inv-loop μ-loop
-same-length-4 c = search needs
+same-length-4 c = omega (arith, c .before .before .before .before .before .before .before .before .before .before .before .before .before .before .before .before .before .before .before .before .before .before .loop .inv, c .before .before .before .before .before .before .before .before .before .before .before .before .before .before .before .before .before .before .feed .kept, c .before .before .before .before .before .before .before .before .before .before .before .before .end-line .kept)
 
 same-length-5 : tie.Need-same-length-5 Inv-loop μ-loop
-same-length-5 c = search needs
+same-length-5 c = omega (arith, c .before .before .before .before .before .before .before .before .before .before .before .before .before .before .before .before .before .before .before .before .before .before .loop .inv, c .before .before .before .before .before .before .before .before .before .before .before .before .before .before .before .before .before .before .feed .kept, c .before .before .before .before .before .before .before .before .before .before .before .before .end-line .kept)
 
 same-length-6 : tie.Need-same-length-6 Inv-loop μ-loop
-same-length-6 c = search needs
+same-length-6 c = omega (arith, c .before .before .before .before .before .before .before .before .before .before .before .before .before .before .before .before .before .before .before .before .before .before .loop .inv, c .before .before .before .before .before .before .before .before .before .before .before .before .before .before .before .before .before .before .feed .kept, c .before .before .before .before .before .before .before .before .before .before .before .before .end-line .kept)
 
 returns-2 : tie.Need-returns-2 Inv-loop μ-loop
 returns-2 c = search needs
+
+loop-less : tie.Need-loop-less Inv-loop μ-loop
+loop-less c = search needs
+
+loop-again : tie.Need-loop-again Inv-loop μ-loop
+loop-again c =
+    let inv = c .before .before .before .before .before .before .before .before .before .before .before .before .before .before .before .before .before .before .before .before .before .loop .inv in
+    let f = c .before .before .before .before .before .before .before .before .before .before .before .before .before .before .before .before .before .feed .kept in
+    let e = c .before .before .before .before .before .before .before .before .before .before .before .end-line .kept in
+    (omega (arith, inv .0, e), omega (arith, inv .1, e), omega (arith, inv .2, f, e))
+
+same-length-7 : tie.Need-same-length-7 Inv-loop μ-loop
+same-length-7 c = search needs
+
+same-length-8 : tie.Need-same-length-8 Inv-loop μ-loop
+same-length-8 c = search needs
+
+same-length-9 : tie.Need-same-length-9 Inv-loop μ-loop
+same-length-9 c = search needs
+
+returns-3 : tie.Need-returns-3 Inv-loop μ-loop
+returns-3 c = search needs
 
 pub run-spec : {M : Type 1} → statement M
 run-spec =
@@ -90,15 +91,19 @@ run-spec =
     line-start-requires
     feed-requires
     end-line-requires
-    slice-aggregate-write-all
-    write-all-requires
     same-length
     same-length-2
     same-length-3
     returns
-    loop-less
-    loop-again
+    slice-aggregate-write-all
+    write-all-requires
     same-length-4
     same-length-5
     same-length-6
-    returns-2)
+    returns-2
+    loop-less
+    loop-again
+    same-length-7
+    same-length-8
+    same-length-9
+    returns-3)
