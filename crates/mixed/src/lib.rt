@@ -12,7 +12,7 @@ ghost use Rattle.clause_set.specs.Clause.{clause-lits};
 ghost use Rattle.clause_set.specs.Stores.{Fits, add-clauses, after};
 ghost use Rattle.log_encoding.specs.Enumerate.{bounded, enumerate};
 ghost use Rattle.mixed.specs.Infos.{AllSmall, Small, equated, info-lit, info-term, infos-left, negated-info};
-ghost use Rattle.mixed.specs.Filling.{Filled, put-last, put-rows};
+ghost use Rattle.mixed.specs.Filling.{Filled, put-last, put-term};
 use clause_set::Clause;
 use clause_set::Counts;
 use mixed_table::encode_table;
@@ -66,8 +66,8 @@ fn term_fits(t: LinearInfo, left: usize, lost: u32) -> bool
 }
 
 // The last term's part of a table.
-fn add_last(tab: &mut [u32; 120], t: LinearInfo)
-    requires { ⌜ (length (now tab) ≡ 120) × (t .weight * t .count ≤ 24) ⌝ }
+fn add_last(tab: &mut [u32; 144], t: LinearInfo)
+    requires { ⌜ (length (now tab) ≡ 144) × (t .weight * t .count ≤ 24) ⌝ }
     requires { ⌜ Small t ⌝ }
     ensures { λ r. ⌜ now (tab .exit) ≡ put-last (now (tab .entry)) t ⌝ }
 {
@@ -82,13 +82,14 @@ fn add_last(tab: &mut [u32; 120], t: LinearInfo)
     }
 }
 
-// A term's thresholds, from the last, before `left` thresholds and a loss of `lost`.
-fn add_term(tab: &mut [u32; 120], left: usize, lost: u32, t: LinearInfo)
-    requires { ⌜ (length (now tab) ≡ 120) × (left + t .count < 24) × (t .weight * t .count + lost < 2 ^ 32) ⌝ }
+// A term's thresholds, from the last, before `terms` terms with `left` thresholds and a loss of `lost`.
+fn add_term(tab: &mut [u32; 144], terms: usize, left: usize, lost: u32, t: LinearInfo)
+    requires { ⌜ (length (now tab) ≡ 144) × (terms < 23) × (left + t .count < 24) × (t .weight * t .count + lost < 2 ^ 32) ⌝ }
     requires { ⌜ Small t ⌝ }
-    ensures { λ r. ⌜ now (tab .exit) ≡ put-rows (now (tab .entry)) t left lost (t .count) ⌝ }
+    ensures { λ r. ⌜ now (tab .exit) ≡ put-term (now (tab .entry)) t terms left lost ⌝ }
 {
     let n = t.count;
+    tab[121 + terms] = (left + wide(n)) as u32;
     let mut i: u32 = 0;
     let mut cost: u32 = 0;
     while i < n {
@@ -97,17 +98,17 @@ fn add_term(tab: &mut [u32; 120], left: usize, lost: u32, t: LinearInfo)
         let l = lit_at(t, n - 1 - i);
         tab[k] = l.0;
         tab[24 + k] = cost;
-        tab[48 + k] = left as u32;
+        tab[48 + k] = (terms + 1) as u32;
         tab[72 + k] = cost + lost;
         i += 1;
     }
 }
 
-// The table of the terms, from the last: how many thresholds stand before the last term; or 24, where the terms do not fit.
-fn fill_table(tab: &mut [u32; 120], ts: [LinearInfo; 15], n: usize) -> usize
+// The table of the terms, from the last: how many terms stand before the last; or 24, where their thresholds do not fit.
+fn fill_table(tab: &mut [u32; 144], ts: [LinearInfo; 15], n: usize) -> usize
     requires { ⌜ AllSmall ts ⌝ }
     requires { ⌜ n ≤ 15 ⌝ }
-    requires { ⌜ now tab ≡ replicate 120 0 ⌝ }
+    requires { ⌜ now tab ≡ replicate 144 0 ⌝ }
     ensures { λ r. ⌜ Filled (now (tab .exit)) (infos-left ts n 0) r ⌝ }
 {
     if n == 0 {
@@ -119,6 +120,7 @@ fn fill_table(tab: &mut [u32; 120], ts: [LinearInfo; 15], n: usize) -> usize
         return 24;
     }
     add_last(tab, last);
+    let mut terms: usize = 0;
     let mut left: usize = 0;
     let mut lost = last.weight * last.count;
     while 0 < i {
@@ -127,11 +129,12 @@ fn fill_table(tab: &mut [u32; 120], ts: [LinearInfo; 15], n: usize) -> usize
         if !term_fits(t, left, lost) {
             return 24;
         }
-        add_term(tab, left, lost, t);
+        add_term(tab, terms, left, lost, t);
+        terms += 1;
         left += wide(t.count);
         lost += t.weight * t.count;
     }
-    left
+    terms
 }
 
 // The clauses of the last term: at most one.
@@ -220,7 +223,7 @@ pub fn encode_linear_ge_mixed_from_info(
         return clause_set::push(lits, ends, Clause::empty(), base, at);
     }
     let slack = above - below;
-    let mut tab = [0u32; 120];
+    let mut tab = [0u32; 144];
     let left = fill_table(&mut tab, ts, n);
     if left < 24 {
         return encode_table(lits, ends, &tab, left, slack, base, at);

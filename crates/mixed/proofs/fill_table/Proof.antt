@@ -12,11 +12,11 @@ use Rattle.mixed.proofs.fill_table.Statement.{statement}
 use Rattle.mixed.proofs.fill_table.Tie as tie
 
 abbrev Inv-loop : tie.InvT-loop
-Inv-loop tab₀ n ts i₀ left₀ lost₀ tab i left lost =
-    (i < n) × Filling tab (infos-left ts n i) left lost
+Inv-loop tab₀ n ts i₀ terms₀ left₀ lost₀ tab i terms left lost =
+    ((i < n) × (terms + i + 1 ≡ n)) × Filling tab (infos-left ts n i) terms left lost
 
 abbrev μ-loop : tie.MeasureT-loop
-μ-loop tab₀ n ts i₀ left₀ lost₀ tab i left lost = i
+μ-loop tab₀ n ts i₀ terms₀ left₀ lost₀ tab i terms left lost = i
 
 whole : (c : tie.Start Inv-loop μ-loop) → c .args .n ≤ length (c .args .t2)
 whole c = omega (arith, c .good .1 .0 .1 .0 .1)
@@ -69,7 +69,7 @@ loop-holds : tie.Need-loop-holds Inv-loop μ-loop
 loop-holds c =
     let s = c .before .before .before .before .before .before .before in
     let a = s .args in
-    (omega arith, rw (c .before .add-last .ensures, s .pre .1 .1) (start-filling (a .t2) (a .n) (whole s) (a .n - 1) (omega arith) (last-small (c .before .before .before))))
+    ((omega arith, omega arith), rw (c .before .add-last .ensures, s .pre .1 .1) (start-filling (a .t2) (a .n) (whole s) (a .n - 1) (omega arith) (last-small (c .before .before .before))))
 
 sub-i-2 : tie.Need-sub-i-2 Inv-loop μ-loop
 sub-i-2 c = search needs
@@ -89,7 +89,10 @@ returns-3 c = not-filled _ _
 add-term-requires : tie.Need-add-term-requires Inv-loop μ-loop
 add-term-requires c κs =
     let f = small (c .before) in
-    ((c .before .before .before .before .before .loop .inv .1 .long, f .0, f .1), c .before .before .before .before .before .before .before .before .before .before .before .before .before .pre .0 (c .before .before .before .before .before .loop .i - 1))
+    ((c .before .before .before .before .before .loop .inv .1 .long, omega (arith, c .before .before .before .before .before .loop .inv .0, c .before .before .before .before .before .before .before .before .before .before .before .before .before .pre), f .0, f .1), c .before .before .before .before .before .before .before .before .before .before .before .before .before .pre .0 (c .before .before .before .before .before .loop .i - 1))
+
+add-terms : tie.Need-add-terms Inv-loop μ-loop
+add-terms c = search needs
 
 wide-requires : tie.Need-wide-requires Inv-loop μ-loop
 wide-requires c κs = search needs
@@ -111,9 +114,9 @@ loop-again c =
     let s = c .before .before .before .before .before .before .before .before .before .before .before .before .before .before .before .before in
     let a = s .args in
     let l = c .before .before .before .before .before .before .before .before .loop in (
-      omega (arith, l .inv .0),
+      (omega (arith, l .inv .0), omega (arith, l .inv .0, c .before .before .before .before .before .before .before .loop-test .taken)),
       rw (c .before .before .add-term .ensures, c .before .wide .ensures .0)
-          (go-on-filling (a .t2) (a .n) (whole s) (l .tab) (l .i) (l .left) (l .lost) (c .before .before .before .before .before .before .before .loop-test .taken) (l .inv .0) (l .inv .1) (small (c .before .before .before .before) .0)),
+          (go-on-filling (a .t2) (a .n) (whole s) (l .tab) (l .i) (l .terms) (l .left) (l .lost) (c .before .before .before .before .before .before .before .loop-test .taken) (l .inv .0 .0) (l .inv .1) (omega (arith, l .inv .0, s .pre)) (small (c .before .before .before .before) .0)),
     )
 
 returns-4 : tie.Need-returns-4 Inv-loop μ-loop
@@ -122,7 +125,7 @@ returns-4 c =
     let a = s .args in
     let l = c .before .loop in
     let done : l .i ≡ 0 = omega arith in
-    end-filling (a .t2) (a .n) (whole s) (l .tab) (l .left) (l .lost) (omega arith) (rw done at (l .inv .1))
+    end-filling (a .t2) (a .n) (whole s) (l .tab) (l .terms) (l .left) (l .lost) (omega arith) (rw done at (l .inv .1))
 
 pub fill-table-spec : {M : Type 1} → statement M
 fill-table-spec =
@@ -145,6 +148,7 @@ fill-table-spec =
     term-fits-requires
     returns-3
     add-term-requires
+    add-terms
     wide-requires
     add-left
     mul-lost-2
