@@ -3,7 +3,7 @@ use Prim.Native.Nat.{_*_, _+_, _-_, _/_, _<_, _≤_, suc, zero, ℕ}
 use lib.ListN.{getD, length, length-set, set}
 use lib.Seq.{getD-set-other, getD-set-same}
 use mathlib.Core.List.{List}
-use mathlib.Core.Logic.{_⊎_, ⊎-elim}
+use mathlib.Core.Logic.{⊎-elim}
 use mathlib.Core.Path.{_∙_, _≡_, refl}
 use native.Mathlib.Nat.{eq-or-lt-of-le, mul-le-mul-left, mul-suc, not-suc-le-zero}
 use native.Mathlib.Numerals.{add-one}

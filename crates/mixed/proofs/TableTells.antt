@@ -1,6 +1,6 @@
 -- A table that is filled from the terms tells their clauses: `walk` gives what `enumerate` gives, and where the slack covers what the
 -- terms left can lose, there is no clause.
-use Prim.Native.Nat.{_*_, _+_, _-_, _<_, _≤_, suc, suc-le-suc, zero, zero-le, ℕ}
+use Prim.Native.Nat.{_*_, _+_, _-_, _<_, _^_, _≤_, suc, suc-le-suc, zero, zero-le, ℕ}
 use borrow.Author.Tests.{le-leb}
 use lib.ListN.{List·getD-eq-default, getD, getD-replicate, length, length-replicate, length-set, replicate, set}
 use lib.Seq.{getD-set-other, getD-set-same, slice-empty}
@@ -12,10 +12,10 @@ use native.Mathlib.Omega.{arith}
 use Rattle.arithmetic.proofs.Tests.{same-or}
 use Rattle.mixed.specs.declared.LinearInfo.{LinearInfo}
 use Rattle.log_encoding.specs.Enumerate.{branch, enumerate}
-use Rattle.mixed.specs.Infos.{info-lit, info-term, infos-left, no-info, thresholds}
+use Rattle.mixed.specs.Infos.{InTable, info-lit, info-term, infos-left, last-loss, loss, no-info, thresholds, thresholds-before}
 use Rattle.mixed_table.specs.Table.{SoundTable, after-of, loss-of, terms-of, top-of, walk-rows}
 use Rattle.mixed.specs.Filling.{Filled, put-last, put-term}
-use Rattle.mixed.proofs.Infos.{last-none, last-one, left-more, length-thresholds}
+use Rattle.mixed.proofs.Infos.{in-table-left, last-none, last-one, left-more, length-thresholds}
 use Rattle.mixed.proofs.Filling.{Last, Row, kept-end, kept-last, kept-terms, kept-row, kept-top, last-length, last-part, last-sound, last-top, rows-length, rows-row}
 use Rattle.mixed_table.proofs.Walk.{walk-covered, walk-last, walk-more}
 
@@ -25,16 +25,6 @@ which (suc a) zero = inr (suc-le-suc zero-le)
 which (suc a) (suc b) = ⊎-elim (λ p. inl (suc-le-suc p)) (λ q. inr (suc-le-suc q)) (which a b)
 
 -- What the terms can lose --------------------------------------------------------------------------------------------
-
-unfoldable pub loss : List LinearInfo → ℕ
-loss [] = 0
-loss (t ∷ ts) = t .weight * t .count + loss ts
-
--- thresholds before the last term
-unfoldable pub size : List LinearInfo → ℕ
-size [] = 0
-size (t ∷ []) = 0
-size (t ∷ u ∷ us) = t .count + size (u ∷ us)
 
 module _ (rest : ℕ → List ℕ → List (List ℕ)) (t : LinearInfo) (r : ℕ) (none : (s : ℕ) (p : List ℕ) → r ≤ s → rest s p ≡ []) where
   branch-covered : (k s : ℕ) (p : List ℕ) → t .weight * k + r ≤ s → branch rest (t .weight) (thresholds t k) s p ≡ []
@@ -66,13 +56,13 @@ unfoldable pub Has : List ℕ → List LinearInfo → Type 0
 Has tab [] = Unit
 Has tab (t ∷ []) = Last tab t
 Has tab (t ∷ u ∷ us) =
-    ((i : ℕ) → i < t .count → Row tab t i (terms-before (u ∷ us) + 1) (size (u ∷ us)) (loss (u ∷ us)))
-    × (top-of tab (suc (terms-before (u ∷ us))) ≡ t .count + size (u ∷ us))
+    ((i : ℕ) → i < t .count → Row tab t i (terms-before (u ∷ us) + 1) (thresholds-before (u ∷ us)) (loss (u ∷ us)))
+    × (top-of tab (suc (terms-before (u ∷ us))) ≡ t .count + thresholds-before (u ∷ us))
     × Has tab (u ∷ us)
 
 -- where its thresholds begin
-has-top : (tab : List ℕ) (t : LinearInfo) (ts : List LinearInfo) → Has tab (t ∷ ts) → top-of tab (terms-before (t ∷ ts)) ≡ size (t ∷ ts)
-unfolding Has size terms-before
+has-top : (tab : List ℕ) (t : LinearInfo) (ts : List LinearInfo) → Has tab (t ∷ ts) → top-of tab (terms-before (t ∷ ts)) ≡ thresholds-before (t ∷ ts)
+unfolding Has thresholds-before terms-before
 has-top tab t [] e = e .none
 has-top tab t (u ∷ us) e = e .1
 
@@ -107,11 +97,11 @@ module _ (tab : List ℕ) (z : SoundTable tab) where
         (which (t .weight * suc k + r) s)
 
   tells : (t : LinearInfo) (ts : List LinearInfo) → Has tab (t ∷ ts)
-      → (s : ℕ) (p : List ℕ) → walk-rows tab (size (t ∷ ts)) s p ≡ enumerate (map info-term (t ∷ ts)) s p
-  unfolding Has size enumerate
+      → (s : ℕ) (p : List ℕ) → walk-rows tab (thresholds-before (t ∷ ts)) s p ≡ enumerate (map info-term (t ∷ ts)) s p
+  unfolding Has thresholds-before enumerate
   tells t [] e s p = tells-last t e s p
   tells t (u ∷ us) e s p =
-      tells-branch t (enumerate (map info-term (u ∷ us))) (terms-before (u ∷ us)) (size (u ∷ us)) (loss (u ∷ us)) (e .0) (e .1)
+      tells-branch t (enumerate (map info-term (u ∷ us))) (terms-before (u ∷ us)) (thresholds-before (u ∷ us)) (loss (u ∷ us)) (e .0) (e .1)
       (has-top tab u us (e .2)) (tells u us (e .2)) (enumerate-covered (u ∷ us)) (t .count) s p (omega arith)
 
 -- Filling a table from the last term ---------------------------------------------------------------------------------
@@ -157,8 +147,8 @@ module _ (tab : List ℕ) (t : LinearInfo) (v n r : ℕ) (e : length tab ≡ 144
   last-kept : loss-of filled′ 0 ≡ loss-of tab 0
   last-kept = kept-last tab′ t (v + 1) n r long′ (t .count) h ∙ getD-set-other tab (121 + v) 72 (n + t .count) 0 (λ z. omega arith)
 
-  kept : loss-of tab 0 ≤ 24 → (us : List LinearInfo) → size us ≤ n → terms-before us ≤ v → Has tab us → Has filled′ us
-  unfolding Has size terms-before
+  kept : loss-of tab 0 ≤ 24 → (us : List LinearInfo) → thresholds-before us ≤ n → terms-before us ≤ v → Has tab us → Has filled′ us
+  unfolding Has thresholds-before terms-before
   kept b [] g a y = y
   kept b (u ∷ []) g a y =
       record {
@@ -170,7 +160,7 @@ module _ (tab : List ℕ) (t : LinearInfo) (v n r : ℕ) (e : length tab ≡ 144
             ∙ y .lit s p;
       }
   kept b (u ∷ w ∷ us) g a y = (
-    λ j p. row-kept j (terms-before (w ∷ us) + 1) (size (w ∷ us)) (loss (w ∷ us)) (omega arith) (y .0 j p),
+    λ j p. row-kept j (terms-before (w ∷ us) + 1) (thresholds-before (w ∷ us)) (loss (w ∷ us)) (omega arith) (y .0 j p),
     top-other (suc (terms-before (w ∷ us))) (λ z. omega arith) ∙ y .1,
     kept b (w ∷ us) (omega arith) (omega arith) (y .2),
   )
@@ -241,8 +231,8 @@ pub record Filling (tab : List ℕ) (ts : List LinearInfo) (terms left lost : �
   pub sound : SoundTable tab
   pub has : Has tab ts
   pub terms-are : terms ≡ terms-before ts
-  pub size-is : left ≡ size ts
-  pub loss-is : lost ≡ loss ts
+  pub left-is : left ≡ thresholds-before ts
+  pub lost-is : lost ≡ loss ts
   pub small : left < 24
   pub tops : (j : ℕ) → top-of tab j ≤ left
 
@@ -263,7 +253,7 @@ empty-sound =
     }
 
 filling-last : (t : LinearInfo) → t .weight * t .count ≤ 24 → Filling (put-last (replicate 144 0) t) (t ∷ []) 0 0 (t .weight * t .count)
-unfolding Has size loss terms-before
+unfolding Has thresholds-before loss terms-before
 filling-last t h =
     let e : length {A = ℕ} (replicate 144 0) ≡ 144 = length-replicate {A = ℕ} 144 0 in
     record {
@@ -271,31 +261,31 @@ filling-last t h =
       sound = last-sound (replicate 144 0) t e h empty-top;
       has = last-part (replicate 144 0) t e h empty-top;
       terms-are = refl;
-      size-is = refl;
-      loss-is = omega arith;
+      left-is = refl;
+      lost-is = omega arith;
       small = omega arith;
       tops = λ j. omega (arith, last-top (replicate 144 0) t e h j, empty-top j);
     }
 
 filling-more : (tab : List ℕ) (t u : LinearInfo) (us : List LinearInfo) (terms left lost : ℕ) → Filling tab (u ∷ us) terms left lost → terms < 23
     → left + t .count < 24 → Filling (put-term tab t terms left lost) (t ∷ u ∷ us) (terms + 1) (left + t .count) (lost + t .weight * t .count)
-unfolding Has size loss terms-before
+unfolding Has thresholds-before loss terms-before
 filling-more tab t u us terms left lost f o h =
     let b : t .count + left < 24 = omega arith in
-    let is : top-of tab terms ≡ left = rw (f .terms-are, f .size-is) (has-top tab u us (f .has)) in
+    let is : top-of tab terms ≡ left = rw (f .terms-are, f .left-is) (has-top tab u us (f .has)) in
     let m = set tab (121 + terms) (left + t .count) in
     let l : length m ≡ 144 = length-set tab (121 + terms) (left + t .count) ∙ f .long in
     record {
       long = rows-length m t (terms + 1) left lost l (t .count);
       sound = sound-more tab t terms left lost (f .long) o b (f .sound) is (f .tops);
       has = (
-        rw (← f .terms-are, ← f .size-is, ← f .loss-is) (rows-row m t (terms + 1) left lost l (t .count) b),
-        rw (← f .terms-are, ← f .size-is) (omega (arith, top-own tab t terms left lost (f .long) o b)),
-        kept tab t terms left lost (f .long) o b (f .sound .last) (u ∷ us) (omega (arith, f .size-is)) (omega (arith, f .terms-are)) (f .has),
+        rw (← f .terms-are, ← f .left-is, ← f .lost-is) (rows-row m t (terms + 1) left lost l (t .count) b),
+        rw (← f .terms-are, ← f .left-is) (omega (arith, top-own tab t terms left lost (f .long) o b)),
+        kept tab t terms left lost (f .long) o b (f .sound .last) (u ∷ us) (omega (arith, f .left-is)) (omega (arith, f .terms-are)) (f .has),
       );
       terms-are = omega (arith, f .terms-are);
-      size-is = omega (arith, f .size-is);
-      loss-is = omega (arith, f .loss-is);
+      left-is = omega (arith, f .left-is);
+      lost-is = omega (arith, f .lost-is);
       small = h;
       tops = tops-more tab t terms left lost (f .long) o b (f .sound) is (f .tops);
     }
@@ -318,12 +308,14 @@ module _ (ts : List LinearInfo) (n : ℕ) (k : n ≤ length ts) where
       rw (left-more ts n (i - 1) a k, j, left-more ts n i h k)
       (filling-more tab (getD ts (i - 1) no-info) (getD ts i no-info) (infos-left ts n (i + 1)) terms left lost (rw (left-more ts n i h k) at f) o b)
 
-  pub end-filling : (tab : List ℕ) (terms left lost : ℕ) → 0 < n → Filling tab (infos-left ts n 0) terms left lost → Filled tab (infos-left ts n 0) terms
-  end-filling tab terms left lost y f =
+  pub end-filling : (tab : List ℕ) (terms left lost : ℕ) → 0 < n → terms < 24 → Filling tab (infos-left ts n 0) terms left lost
+      → Filled tab (infos-left ts n 0) terms
+  end-filling tab terms left lost y o f =
       let g = rw (left-more ts n 0 y k) at f in
       record {
-        sound = λ b. f .sound;
-        same = λ b s p.
+        few = o;
+        sound = f .sound;
+        same = λ s p.
             rw (left-more ts n 0 y k, g .terms-are, has-top tab (getD ts 0 no-info) (infos-left ts n 1) (g .has))
             (tells tab (f .sound) (getD ts 0 no-info) (infos-left ts n 1) (g .has) s p);
       }
@@ -333,10 +325,25 @@ module _ (ts : List LinearInfo) (n : ℕ) (k : n ≤ length ts) where
   unfolding enumerate
   none-filled e =
       record {
-        sound = λ b. empty-sound;
-        same = λ b s p. rw (e, empty-top 0) (walk-covered (replicate 144 0) empty-sound s p 0 (omega (arith, getD-replicate {A = ℕ} 144 72 0 0 (omega arith))));
+        few = omega arith;
+        sound = empty-sound;
+        same = λ s p. rw (e, empty-top 0) (walk-covered (replicate 144 0) empty-sound s p 0 (omega (arith, getD-replicate {A = ℕ} 144 72 0 0 (omega arith))));
       }
 
--- the terms do not fit
-pub not-filled : (tab : List ℕ) (ts : List LinearInfo) → Filled tab ts 24
-not-filled tab ts = record { sound = λ b. absurd (omega arith); same = λ b s p. absurd (omega arith) }
+  -- where the terms fit into a table: the last, and one before others
+  module _ (h : InTable (infos-left ts n 0)) where
+    pub last-fits : (i : ℕ) → i + 1 ≡ n → getD ts i no-info .weight * getD ts i no-info .count ≤ 24
+    unfolding last-loss
+    last-fits i e =
+        let b : i < n = omega arith in
+        rw (left-more ts n i b k, e, slice-empty n ts) at (in-table-left ts n k h i b) .last
+
+    pub term-fits : (tab : List ℕ) (i terms left lost : ℕ) → 0 < i → i < n → Filling tab (infos-left ts n i) terms left lost
+        → (left + getD ts (i - 1) no-info .count < 24) × (getD ts (i - 1) no-info .weight * getD ts (i - 1) no-info .count + lost < 2 ^ 32)
+    unfolding thresholds-before loss
+    term-fits tab i terms left lost y b f =
+        let a : i - 1 < n = omega arith in
+        let j : i - 1 + 1 ≡ i = omega arith in
+        let f′ = rw (left-more ts n i b k) at f in
+        let w = rw (left-more ts n (i - 1) a k, j, left-more ts n i b k) at (in-table-left ts n k h (i - 1) a) in
+        (omega (arith, w .few, f′ .left-is), omega (arith, w .all, f′ .lost-is))

@@ -29,7 +29,8 @@ put-ends tab t (suc s) = set (put-ends tab t s) (96 + s) (info-lit t (t .count -
 abbrev pub put-last : List ℕ → LinearInfo → List ℕ
 put-last tab t = put-ends (set tab 72 (t .weight * t .count)) t (t .weight * t .count)
 
--- r terms stand before the last, and the table tells the clauses of the terms; or r is 24, and the terms do not fit
+-- r terms stand before the last, and the table tells the clauses of the terms
 pub record Filled (tab : List ℕ) (ts : List LinearInfo) (r : ℕ) : Type 0 where
-  pub sound : r < 24 → SoundTable tab
-  pub same : r < 24 → (slack : ℕ) (prefix : List ℕ) → walk tab r slack prefix ≡ enumerate (map info-term ts) slack prefix
+  pub few : r < 24
+  pub sound : SoundTable tab
+  pub same : (slack : ℕ) (prefix : List ℕ) → walk tab r slack prefix ≡ enumerate (map info-term ts) slack prefix
