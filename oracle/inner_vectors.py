@@ -7,7 +7,8 @@
 A line of the input is a word and numbers:
   ge ABOVE BELOW (WEIGHT FALLING FIRST COUNT)..
       The terms and ABOVE - BELOW, the slack. A term's thresholds are the literals of COUNT
-      variables from FIRST on; FALLING is 1 if its coefficient is negative.
+      variables from FIRST on; FALLING is 1 if its coefficient is negative. A line is bad if the
+      last term can lose more than 24 (WEIGHT times COUNT) or a weight is above 2 ** 27.
   adder VARIABLES CONSTANT WIDTH GIVEN RESULT.. (COEF N LIT..)..
       Rows of N literals, scaled by COEF, in WIDTH columns; the first GIVEN result literals.
   eq_adder VARIABLES X Y WIDTH (COEF N LIT..)..
@@ -29,8 +30,9 @@ from judge import add_driver_option
 
 DIRECTORY = Path(__file__).resolve().parent.parent / "crates" / "columns_check"
 PRINTED, MOST_CLAUSES, MOST_LITERALS = 400, 65_535, 524_288
+LAST_LOSS, MOST_WEIGHT = 24, 1 << 27
 COUNTS = {
-    "ge": {"any": 200, "unit": 60, "column": 60, "short": 30},
+    "ge": {"any": 200, "unit": 60, "column": 60, "short": 30, "bad": 12},
     "adder": {"small": 70, "given": 45, "wide": 15, "eleven": 8, "twelve": 8, "tall": 8},
     "eq_adder": {
         "small": 60,
@@ -143,8 +145,14 @@ def show(clauses):
     return words(len(clauses), literals, *(word for c in clauses for word in ("|", *c)))
 
 
+def last_loss(terms):
+    """What the last of the terms, (weight, falling, first, count), can lose."""
+    return terms[-1][0] * terms[-1][3] if terms else 0
+
+
 def ge_answer(driver, above, below, terms):
-    """Terms are (weight, falling, first, count)."""
+    if last_loss(terms) > LAST_LOSS or any(term[0] > MOST_WEIGHT for term in terms):
+        return "bad line"
     constant, parts = above - below, []
     for weight, falling, first, count in terms:
         if not falling:
@@ -233,12 +241,15 @@ class Vectors:
         return weight, rng.randrange(2), first, min(count, left)
 
     def terms(self, kind):
+        """The last can lose more than it may if the kind is "bad", and only then."""
         counts = [0, 1, 1, 2] if kind == "short" else [2, 3, 4, 5, 6, 8, 10, 12, 13, 14, 15]
-        terms, left = [], 19
-        for _ in range(self.rng.choice(counts)):
-            terms.append(self.term(kind, left))
-            left -= terms[-1][3]
-        return terms
+        while True:
+            terms, left = [], 19
+            for _ in range(self.rng.choice(counts)):
+                terms.append(self.term(kind, left))
+                left -= terms[-1][3]
+            if (last_loss(terms) > LAST_LOSS) == (kind == "bad"):
+                return terms
 
     def inequality(self, kind):
         """A slack from below 0 to past what the terms can lose."""
@@ -248,9 +259,19 @@ class Vectors:
         slack = rng.choice([slack] * 12 + [-1, loss, loss + 1, rng.randint(-100, -1)])
         below = rng.choice([0, 0, rng.randint(0, 50), rng.randint(0, 1_000_000)]) + max(-slack, 0)
         above = below + slack
+        return self.add_inequality(kind, above, below, terms)
+
+    def add_inequality(self, kind, above, below, terms):
         numbers = [n for term in terms for n in term]
         line = words("ge", above, below, *numbers)
         return self.add("ge " + kind, line, ge_answer(self.driver, above, below, terms))
+
+    def inequality_edges(self):
+        """The greatest weight, and a last term that loses 24, and one more of each."""
+        for weight, falling in [(MOST_WEIGHT, 0), (MOST_WEIGHT + 1, 1)]:
+            self.add_inequality("edge", weight + 1, 0, [(weight, falling, 2, 3), (1, 0, 20, 2)])
+        for weight, count in [(24, 1), (25, 1), (1, 17), (2, 12), (2, 13), (5, 5), (8, 3)]:
+            self.add_inequality("edge", 7, 0, [(3, 1, 2, 2), (weight, 0, 20, count)])
 
     def rows(self, kind, variables):
         rng = self.rng
@@ -322,6 +343,7 @@ class Vectors:
             for kind, count in kinds.items():
                 while self.counts.get(f"{word} {kind}", 0) < count:
                     draws[word](kind)
+        self.inequality_edges()
         self.edges()
         self.rng.shuffle(self.lines)
         for line in BAD_LINES:

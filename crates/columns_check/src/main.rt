@@ -1,5 +1,6 @@
 // Runs the inner functions on the lines of standard input and prints their answers. A line is a word and numbers of at most 2 ^ 30:
-//   ge ABOVE BELOW (WEIGHT FALLING FIRST COUNT)..               one inequality, of at most 15 terms and 19 literals
+//   ge ABOVE BELOW (WEIGHT FALLING FIRST COUNT)..               one inequality, of at most 15 terms and 19 literals, with weights
+//                                                               of at most 2 ^ 27, the last term's times its literals at most 24
 //   adder VARS CONSTANT WIDTH GIVEN RESULT.. (COEF N LIT..)..   columns gathered from N literals each, scaled by COEF
 //   eq_adder VARS X Y WIDTH (COEF N LIT..)..                    columns that with X have to add up to Y; X or Y is 0
 // It is answered by a line: `ge CLAUSES`, `adder VARS BITS.. : CLAUSES`, `eq_adder VARS CLAUSES`, `tall` or `bad line`. CLAUSES is how
@@ -67,7 +68,7 @@ struct TermInput {
 }
 
 fn no_term() -> TermInput
-    ensures { λ r. ⌜ Small (r .term) × (r .term .count ≡ 0) ⌝ }
+    ensures { λ r. ⌜ Small (r .term) × (r .term .count ≡ 0) × (r .term .weight ≡ 0) ⌝ }
 {
     TermInput {
         term: LinearInfo {
@@ -83,13 +84,13 @@ fn no_term() -> TermInput
 // The term at `at`, of at most `left` literals.
 fn read_term(nums: &[i64], at: usize, left: u32) -> TermInput
     requires { ⌜ (at < 1000) × (left ≤ 19) ⌝ }
-    ensures { λ r. ⌜ Small (r .term) × (r .term .count ≤ left) ⌝ }
+    ensures { λ r. ⌜ Small (r .term) × (r .term .count ≤ left) × (r .term .weight ≤ 134217728) ⌝ }
 {
     let weight = number(nums, at);
     let falling = number(nums, at + 1);
     let first = number(nums, at + 2);
     let count = number(nums, at + 3);
-    if count > left || falling > 1 || weight == 0 {
+    if count > left || falling > 1 || weight == 0 || weight > 134217728 {
         return no_term();
     }
     TermInput {
@@ -103,10 +104,11 @@ fn read_term(nums: &[i64], at: usize, left: u32) -> TermInput
     }
 }
 
-// The terms of a line, if it is within bounds.
+// The terms of a line, what the last can lose, and whether the line is within bounds.
 struct Terms {
     terms: [LinearInfo; 15],
     len: usize,
+    last: u64,
     good: bool,
 }
 
@@ -122,6 +124,7 @@ fn read_terms(nums: &[i64]) -> Terms
     let mut ts = [none; 15];
     let mut left: u32 = 19;
     let mut n: usize = 0;
+    let mut last: u64 = 0;
     let mut good = true;
     while n < 15 && good && 4 * n + 2 < nums.len() {
         let t = read_term(nums, 4 * n + 2, left);
@@ -129,18 +132,20 @@ fn read_terms(nums: &[i64]) -> Terms
         ts[n] = x;
         left -= x.count;
         n += 1;
+        last = x.weight as u64 * x.count as u64;
         good = t.good;
     }
     Terms {
         terms: ts,
         len: n,
+        last,
         good: good && nums.len() == 4 * n + 2,
     }
 }
 
 fn run_ge(nums: &[i64], lits: &mut [u32], ends: &mut [u32]) {
     let t = read_terms(nums);
-    if !t.good {
+    if !t.good || t.last > 24 {
         show(b"bad line\n");
         return;
     }

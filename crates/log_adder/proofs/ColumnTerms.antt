@@ -1,8 +1,8 @@
--- The terms of a column as the code holds them are those of the definition; how many clauses they have.
+-- The terms of a column as the code holds them are those of the definition, and fit into a table; how many clauses they have.
 use mathlib.Core.Path.{_≡_, refl, ap, ap₂, sym, _∙_}
 use mathlib.Core.Bool.{Bool, cond, true, false}
 use mathlib.Core.List.{List, [], _∷_, _++_, map, append-assoc, map-append}
-use Prim.Native.Nat.{ℕ, zero, suc, _+_, _-_, _*_, _≤_, _<_}
+use Prim.Native.Nat.{ℕ, zero, suc, _+_, _-_, _*_, _^_, _≤_, _<_}
 use native.Mathlib.Nat.{sub-zero}
 use native.Mathlib.Omega.{arith}
 use borrow.Author.Tests.{le-leb, leb-false, leb-true, lt-leb}
@@ -17,7 +17,8 @@ use Rattle.log_adder.specs.declared.ColumnInfo.{ColumnInfo}
 use Rattle.sat.specs.Lit.{neg}
 use Rattle.log_encoding.specs.Terms.{Term, flip, singles, term}
 use Rattle.log_encoding.specs.Enumerate.{bounded, enumerate}
-use Rattle.mixed.specs.Infos.{equated, info-lit, info-term, negated-info, thresholds}
+use Rattle.mixed.specs.Infos.{InTable, equated, info-lit, info-term, last-loss, loss, negated-info, thresholds, thresholds-before}
+use Rattle.mixed.proofs.Infos.{before-more, last-append}
 use Rattle.sat.proofs.Fresh.{fresh-last, length-fresh}
 use Rattle.log_encoding.proofs.Flip.{flip-snoc}
 use Rattle.log_encoding.specs.Adder2.{eq-column, eq-ge-terms, eq-le-terms}
@@ -92,6 +93,16 @@ module _ (c : ColumnInfo) where
       ∙ map-append info-term (map negated-info (eq-infos c)) (lit-info false (c .result) ∷ [])
       ∙ rw (eq-le-terms-are, lit-term (c .result)) (append-assoc (singles (map neg (own-lits c))) _ _)
 
+-- single literals before other terms
+own-more : (ls : List Lit) (u : LinearInfo) (us : List LinearInfo)
+    → (let ts = map (lit-info false) ls ++ (u ∷ us) in
+    (thresholds-before ts ≡ length ls + thresholds-before (u ∷ us)) × (loss ts ≡ length ls + loss (u ∷ us)))
+unfolding loss
+own-more [] u us = (omega arith, omega arith)
+own-more (l ∷ ls) u us =
+    let r = own-more ls u us in
+    (omega (arith, before-more (lit-info false l) (map (lit-info false) ls) u us, r .0), omega (arith, r .1))
+
 -- The two inequalities -----------------------------------------------------------------------------------------------
 
 leb-shift : (a b k : ℕ) → leb (b + k) (a + k) ≡ leb b a
@@ -132,6 +143,30 @@ module _ (c : ColumnInfo) (z : ColumnSized c) (long : length (c .own) ≡ 12) wh
       let slack : 2 * c .next .count + 1 - c .bit ≡ 0 + (lost + 1) - (c .bit + column-height c) = omega arith in
       let fits : c .bit + column-height c ≤ 0 + (lost + 1) = omega (arith, z) in
       rw (own-length, length-fresh (c .carry .count) (c .carry .first .0), length-fresh (c .next .count) (c .next .first .0), ge-terms-are c, le-terms-are c, above, slack, le-leb 0 (c .bit + column-height c) (omega arith), le-leb (c .bit + column-height c) (0 + (lost + 1)) fits, sub-zero)
+
+  -- own literals before other terms fit into a table
+  own-in-table : (u : LinearInfo) (us : List LinearInfo) → thresholds-before (u ∷ us) + c .height < 24 → last-loss (u ∷ us) ≤ 24
+      → loss (u ∷ us) + c .height < 2 ^ 32 → InTable (map (lit-info false) (own· c) ++ (u ∷ us))
+  own-in-table u us f l a =
+      let n : length (own· c) ≡ c .height = rw length-take (omega (arith, z)) in
+      let r = own-more (own· c) u us in
+      record {
+        few = omega (arith, r .0, f);
+        last = omega (arith, last-append (map (lit-info false) (own· c)) u us, l);
+        all = omega (arith, r .1, a);
+      }
+
+  pub eq-in-table : InTable (eq-infos c)
+  unfolding thresholds-before last-loss loss
+  eq-in-table =
+      own-in-table (range-info 1 false (c .carry)) (range-info 2 true (c .next) ∷ []) (omega (arith, z)) (omega (arith, z)) (omega (arith, z))
+
+  pub column-in-table : InTable (column-infos c)
+  unfolding thresholds-before last-loss loss
+  column-in-table =
+      let more : List LinearInfo = lit-info true (c .result) ∷ [] in
+      rw (append-assoc (map (lit-info false) (own· c)) (range-info 1 false (c .carry) ∷ range-info 2 true (c .next) ∷ []) more)
+      (own-in-table (range-info 1 false (c .carry)) (range-info 2 true (c .next) ∷ more) (omega (arith, z)) (omega (arith, z)) (omega (arith, z)))
 
   own-few : length (own-lits c) + length (range-lits (c .carry)) ≤ 12
   own-few = rw (own-length, length-fresh (c .carry .count) (c .carry .first .0)) (omega (arith, z))

@@ -1,23 +1,16 @@
--- The clauses of an inequality, as the code comes by them: at the last term, at a term with others after it, at a threshold of it; the terms negated.
-use mathlib.Core.Path.{_≡_, refl, subst⁻¹, ap, _∙_}
+-- The terms of an inequality and the clauses of the last; terms that fit into a table; the terms negated.
+use mathlib.Core.Path.{_≡_, refl, ap, _∙_}
 use mathlib.Core.List.{List, [], _∷_, _++_, map}
-use Prim.Native.Nat.{ℕ, zero, suc, _+_, _-_, _*_, _/_, _^_, _≤_, _<_}
-use native.Mathlib.Nat.{zero-mul, mul-comm, le-of-lt, lt-of-le-of-lt, not-suc-le-zero, mul-le-mul-left, mul-lt-mul-of-pos-right, div-lt-iff-lt-mul}
-use native.Mathlib.Numerals.{add-one, sub-one}
+use Prim.Native.Nat.{ℕ, zero, suc, _+_, _-_, _*_, _/_, _≤_, _<_}
+use native.Mathlib.Nat.{zero-mul, mul-comm, not-suc-le-zero, div-lt-iff-lt-mul}
+use native.Mathlib.Numerals.{add-one}
 use native.Mathlib.Omega.{arith}
 use borrow.Author.Tests.{lt-leb, le-leb}
-use lib.Pow.{pow-pos, pow-add}
 use lib.ListN.{drop, length, getD, set, take}
-use lib.Seq.{slice-cons, slice-empty}
+use lib.Seq.{slice-cons}
 use Rattle.mixed.specs.declared.LinearInfo.{LinearInfo}
-use Rattle.log_encoding.specs.Enumerate.{branch, enumerate, bounded}
-use Rattle.mixed.specs.Infos.{AllSmall, info-lit, thresholds, info-term, no-info, infos-left, negated-info}
-
--- the product of two numbers of k bits has at most k + k
-pub below : (k : ℕ) {a b : ℕ} → a < 2 ^ k → b < 2 ^ k → a * b < 2 ^ (k + k)
-below k {a} {b} ha hb =
-    subst⁻¹ (λ (n : ℕ). a * b < n) (pow-add 2 k k)
-    (lt-of-le-of-lt (mul-le-mul-left a (le-of-lt hb)) (mul-lt-mul-of-pos-right ha (pow-pos k)))
+use Rattle.log_encoding.specs.Enumerate.{enumerate, bounded}
+use Rattle.mixed.specs.Infos.{AllSmall, InTable, info-lit, thresholds, thresholds-before, info-term, no-info, infos-left, last-loss, loss, negated-info}
 
 -- a product above some number has a first factor above 0
 pub factor : (w s n : ℕ) → s < w * n → 0 < w
@@ -51,28 +44,38 @@ module _ (t : LinearInfo) (s : ℕ) (p : List ℕ) where
   unfolding enumerate
   last-none h = rw (length-thresholds t (t .count), le-leb (t .weight * t .count) s h)
 
+-- Terms that fit into a table ----------------------------------------------------------------------------------------
+
+in-table-later : (t u : LinearInfo) (us : List LinearInfo) → InTable (t ∷ u ∷ us) → InTable (u ∷ us)
+unfolding thresholds-before last-loss loss
+in-table-later t u us h = record { few = omega (arith, h .few); last = h .last; all = omega (arith, h .all) }
+
+-- before others
+pub before-more : (t : LinearInfo) (ts : List LinearInfo) (u : LinearInfo) (us : List LinearInfo)
+    → thresholds-before (t ∷ (ts ++ (u ∷ us))) ≡ t .count + thresholds-before (ts ++ (u ∷ us))
+unfolding thresholds-before
+before-more t [] u us = refl
+before-more t (v ∷ ts) u us = refl
+
+pub last-append : (ts : List LinearInfo) (u : LinearInfo) (us : List LinearInfo) → last-loss (ts ++ (u ∷ us)) ≡ last-loss (u ∷ us)
+unfolding last-loss
+last-append [] u us = refl
+last-append (t ∷ []) u us = refl
+last-append (t ∷ v ∷ ts) u us = last-append (v ∷ ts) u us
+
 -- The terms infos-left -----------------------------------------------------------------------------------------------
 
 module _ (ts : List LinearInfo) (n : ℕ) where
   pub left-more : (i : ℕ) → i < n → n ≤ length ts → infos-left ts n i ≡ getD ts i no-info ∷ infos-left ts n (i + 1)
   left-more i h k = rw add-one (slice-cons i n ts no-info h k)
 
-  pub enumerate-none : (s : ℕ) (p : List ℕ) → enumerate (map info-term (infos-left ts n n)) s p ≡ []
-  unfolding enumerate
-  enumerate-none s p = rw (slice-empty n ts)
-
-  pub enumerate-last : (i s : ℕ) (p : List ℕ) → i + 1 ≡ n → n ≤ length ts → enumerate (map info-term (infos-left ts n i)) s p ≡ enumerate (info-term (getD ts i no-info) ∷ []) s p
-  enumerate-last i s p e k =
-      let h : i < n = omega arith in
-      rw (left-more i h k, e, slice-empty n ts)
-
-  pub enumerate-more : (i s : ℕ) (p : List ℕ) → i + 1 < n → n ≤ length ts
-      → enumerate (map info-term (infos-left ts n i)) s p
-      ≡ branch (enumerate (map info-term (infos-left ts n (i + 1)))) (getD ts i no-info .weight) (thresholds (getD ts i no-info) (getD ts i no-info .count)) s p
-  unfolding enumerate
-  enumerate-more i s p h k =
-      let h′ : i < n = omega arith in
-      rw (left-more i h′ k, left-more (i + 1) h k)
+  -- from each on, they fit into a table
+  pub in-table-left : n ≤ length ts → InTable (infos-left ts n 0) → (i : ℕ) → i < n → InTable (infos-left ts n i)
+  in-table-left k h zero b = h
+  in-table-left k h (suc i) b =
+      let a : i < n = omega arith in
+      let w = rw (left-more i a k, add-one i, left-more (suc i) b k) at (in-table-left k h i a) in
+      rw (left-more (suc i) b k) (in-table-later (getD ts i no-info) (getD ts (suc i) no-info) (infos-left ts n (suc i + 1)) w)
 
   pub bounded-dead : (above below : ℕ) → above < below → bounded (map info-term (infos-left ts n 0)) above below ≡ [] ∷ []
   unfolding bounded
@@ -81,23 +84,6 @@ module _ (ts : List LinearInfo) (n : ℕ) where
   pub bounded-live : (above below : ℕ) → below ≤ above → bounded (map info-term (infos-left ts n 0)) above below ≡ enumerate (map info-term (infos-left ts n 0)) (above - below) []
   unfolding bounded
   bounded-live above below h = rw (le-leb below above h)
-
--- The thresholds of one term -----------------------------------------------------------------------------------------
-
-module _ (rest : ℕ → List ℕ → List (List ℕ)) (t : LinearInfo) (s : ℕ) (p : List ℕ) where
-  pub steps-none : (k : ℕ) → k ≤ 0 → branch rest (t .weight) (thresholds t k) s p ≡ rest s p
-  steps-none zero h = refl
-  steps-none (suc k) h = absurd (not-suc-le-zero h)
-
-  pub steps-cut : (k : ℕ) → 0 < k → s < t .weight * k
-      → branch rest (t .weight) (thresholds t k) s p ≡ ((p ++ info-lit t (t .count - k) ∷ []) ∷ []) ++ branch rest (t .weight) (thresholds t (k - 1)) s p
-  steps-cut zero z h = absurd (not-suc-le-zero z)
-  steps-cut (suc k) z h = rw (length-thresholds t k, lt-leb (t .weight * suc k) s h, sub-one (suc k))
-
-  pub steps-on : (k : ℕ) → 0 < k → t .weight * k ≤ s
-      → branch rest (t .weight) (thresholds t k) s p ≡ rest (s - t .weight * k) (p ++ info-lit t (t .count - k) ∷ []) ++ branch rest (t .weight) (thresholds t (k - 1)) s p
-  steps-on zero z h = absurd (not-suc-le-zero z)
-  steps-on (suc k) z h = rw (length-thresholds t k, le-leb (t .weight * suc k) s h, sub-one (suc k))
 
 -- Negated terms ------------------------------------------------------------------------------------------------------
 
@@ -122,3 +108,15 @@ negated-small [] (suc n) h k = h k
 negated-small (t ∷ ts) zero h k = h k
 negated-small (t ∷ ts) (suc n) h zero = record { top = h zero .top }
 negated-small (t ∷ ts) (suc n) h (suc k) = negated-small ts n (λ (j : ℕ). h (suc j)) k
+
+negated-same : (ts : List LinearInfo)
+    → (thresholds-before (map negated-info ts) ≡ thresholds-before ts) × (last-loss (map negated-info ts) ≡ last-loss ts) × (loss (map negated-info ts) ≡ loss ts)
+unfolding thresholds-before last-loss loss
+negated-same [] = (refl, refl, refl)
+negated-same (t ∷ []) = (refl, refl, refl)
+negated-same (t ∷ u ∷ us) = let r = negated-same (u ∷ us) in (ap (λ (x : ℕ). t .count + x) (r .0), r .1, ap (λ (x : ℕ). t .weight * t .count + x) (r .2))
+
+pub negated-in-table : (ts : List LinearInfo) → InTable ts → InTable (map negated-info ts)
+negated-in-table ts h =
+    let r = negated-same ts in
+    record { few = omega (arith, r .0, h .few); last = omega (arith, r .1, h .last); all = omega (arith, r .2, h .all) }

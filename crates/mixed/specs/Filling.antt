@@ -9,13 +9,17 @@ use Rattle.mixed.specs.Infos.{info-lit, info-term}
 use Rattle.mixed.specs.declared.LinearInfo.{LinearInfo}
 
 abbrev pub put-row : List ℕ → ℕ → ℕ → ℕ → ℕ → ℕ → List ℕ
-put-row tab k lit cost next loss = set (set (set (set tab k lit) (24 + k) cost) (48 + k) next) (72 + k) loss
+put-row tab k lit cost terms loss = set (set (set (set tab k lit) (24 + k) cost) (48 + k) terms) (72 + k) loss
 
--- the last i thresholds of a term that has n thresholds after it and a loss of r
-unfoldable pub put-rows : List ℕ → LinearInfo → ℕ → ℕ → ℕ → List ℕ
-put-rows tab t n r zero = tab
-put-rows tab t n r (suc i) =
-    put-row (put-rows tab t n r i) (suc i + n) (info-lit t (t .count - suc i)) (t .weight * suc i) n (t .weight * suc i + r)
+-- the last i thresholds of a term that is the first of v terms left before the last, with n thresholds and a loss of r after it
+unfoldable pub put-rows : List ℕ → LinearInfo → ℕ → ℕ → ℕ → ℕ → List ℕ
+put-rows tab t v n r zero = tab
+put-rows tab t v n r (suc i) =
+    put-row (put-rows tab t v n r i) (suc i + n) (info-lit t (t .count - suc i)) (t .weight * suc i) v (t .weight * suc i + r)
+
+-- a whole term before v terms
+abbrev pub put-term : List ℕ → LinearInfo → ℕ → ℕ → ℕ → List ℕ
+put-term tab t v n r = put-rows (set tab (121 + v) (n + t .count)) t (v + 1) n r (t .count)
 
 -- the last term: its literals at the first s slacks
 unfoldable pub put-ends : List ℕ → LinearInfo → ℕ → List ℕ
@@ -25,7 +29,8 @@ put-ends tab t (suc s) = set (put-ends tab t s) (96 + s) (info-lit t (t .count -
 abbrev pub put-last : List ℕ → LinearInfo → List ℕ
 put-last tab t = put-ends (set tab 72 (t .weight * t .count)) t (t .weight * t .count)
 
--- r thresholds stand before the last term, and the table tells the clauses of the terms; or r is 24, and the terms do not fit
+-- r terms stand before the last, and the table tells the clauses of the terms
 pub record Filled (tab : List ℕ) (ts : List LinearInfo) (r : ℕ) : Type 0 where
-  pub sound : r < 24 → SoundTable tab
-  pub same : r < 24 → (slack : ℕ) (prefix : List ℕ) → walk tab r slack prefix ≡ enumerate (map info-term ts) slack prefix
+  pub few : r < 24
+  pub sound : SoundTable tab
+  pub same : (slack : ℕ) (prefix : List ℕ) → walk tab r slack prefix ≡ enumerate (map info-term ts) slack prefix

@@ -1,5 +1,5 @@
 -- The terms of an inequality as the code holds them.
-use Prim.Native.Nat.{_*_, _+_, _-_, _<_, _^_, suc, zero, ℕ}
+use Prim.Native.Nat.{_*_, _+_, _-_, _<_, _^_, _≤_, suc, zero, ℕ}
 use lib.ListN.{drop, getD, take}
 use mathlib.Core.Bool.{cond, false, not}
 use mathlib.Core.List.{List, [], _++_, _∷_, map}
@@ -35,6 +35,29 @@ AllSmall ts = (k : ℕ) → Small (getD ts k no-info)
 -- the terms from `at` on, of the first n
 abbrev pub infos-left : List LinearInfo → ℕ → ℕ → List LinearInfo
 infos-left ts n at = drop at (take n ts)
+
+-- thresholds before the last term
+unfoldable pub thresholds-before : List LinearInfo → ℕ
+thresholds-before [] = 0
+thresholds-before (t ∷ []) = 0
+thresholds-before (t ∷ u ∷ us) = t .count + thresholds-before (u ∷ us)
+
+-- what the last term can lose
+unfoldable pub last-loss : List LinearInfo → ℕ
+last-loss [] = 0
+last-loss (t ∷ []) = t .weight * t .count
+last-loss (t ∷ u ∷ us) = last-loss (u ∷ us)
+
+-- what all terms can lose
+unfoldable pub loss : List LinearInfo → ℕ
+loss [] = 0
+loss (t ∷ ts) = t .weight * t .count + loss ts
+
+-- terms that fit into a table (mixed_table, specs/Table)
+pub record InTable (ts : List LinearInfo) : Type 0 where
+  pub few : thresholds-before ts < 24
+  pub last : last-loss ts ≤ 24
+  pub all : loss ts < 2 ^ 32
 
 -- the term of minus the number
 abbrev pub negated-info : LinearInfo → LinearInfo

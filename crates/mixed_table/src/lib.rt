@@ -70,12 +70,13 @@ fn put_clause(
     at + 4294967297 + m as u64
 }
 
-// The clauses of the `left` thresholds before the last term, and of the last term, after the m literals of the prefix: going down
-// through the terms left, and no further where the slack covers what they can lose.
+// The clauses of the `left` terms before the last, and of the last term, after the m literals of the prefix: going down through the
+// terms left, and no further where the slack covers what they can lose. The loop goes through the thresholds of the terms left; where
+// one is missed, the call goes on with one term less than are left there.
 fn encode_sub(
     lits: &mut [u32],
     ends: &mut [u32],
-    tab: &[u32; 120],
+    tab: &[u32; 144],
     prefix: &mut [u32; 24],
     m: usize,
     left: usize,
@@ -89,7 +90,7 @@ fn encode_sub(
     ensures { λ r. ⌜ after (now (lits .exit)) (now (ends .exit)) (counts r) ≡ add-clauses base (walk (now (tab .entry)) left slack (take m (now (prefix .entry)))) (after (now (lits .entry)) (now (ends .entry)) (counts at)) ⌝ }
     ensures { λ r. ⌜ SamePrefix m (now (prefix .entry)) (now (prefix .exit)) ⌝ }
 {
-    let mut k = left;
+    let mut k = wide(tab[120 + left]);
     let mut used = at;
     while 0 < k {
         if slack >= tab[72 + k] {
@@ -100,7 +101,7 @@ fn encode_sub(
             used = put_clause(lits, ends, prefix, m, tab[k], base, used);
         } else {
             prefix[m] = tab[k];
-            let after_term = wide(tab[48 + k]);
+            let after_term = wide(tab[48 + k]) - 1;
             let rest = slack - cost;
             used = encode_sub(lits, ends, tab, prefix, m + 1, after_term, rest, base, used);
         }
@@ -112,11 +113,11 @@ fn encode_sub(
     used
 }
 
-// The clauses that a table tells, from the first of its thresholds on.
+// The clauses that a table tells, from the first of its `left` terms before the last.
 pub fn encode_table(
     lits: &mut [u32],
     ends: &mut [u32],
-    tab: &[u32; 120],
+    tab: &[u32; 144],
     left: usize,
     slack: u64,
     base: u32,
@@ -127,7 +128,8 @@ pub fn encode_table(
     requires { ⌜ Fits base at (walk (now tab) left slack []) ⌝ }
     ensures { λ r. ⌜ after (now (lits .exit)) (now (ends .exit)) r ≡ add-clauses base (walk (now (tab .entry)) left slack []) (after (now (lits .entry)) (now (ends .entry)) at) ⌝ }
 {
-    let all = wide(tab[72 + left]) as u64;
+    let top = wide(tab[120 + left]);
+    let all = wide(tab[72 + top]) as u64;
     if slack >= all {
         return at;
     }

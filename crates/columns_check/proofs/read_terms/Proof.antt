@@ -2,15 +2,15 @@
 use Prim.Native.Nat.{_-_, _≤_}
 use native.Mathlib.Omega.{arith}
 use borrow.Author.Needs.{needs}
-use Rattle.columns_check.proofs.Laws.{TermsGoing, terms-none, terms-more, terms-end}
+use Rattle.columns_check.proofs.Laws.{TermsGoing, light-loss, terms-none, terms-more, terms-end}
 use Rattle.columns_check.proofs.read_terms.Statement.{statement}
 use Rattle.columns_check.proofs.read_terms.Tie as tie
 
 abbrev Inv-loop : tie.InvT-loop
-Inv-loop nums ts₀ left₀ n₀ good₀ ts left n good = (n ≤ 15) × TermsGoing ts left n
+Inv-loop nums ts₀ left₀ n₀ last₀ good₀ ts left n last good = (n ≤ 15) × TermsGoing ts left last n
 
 abbrev μ-loop : tie.MeasureT-loop
-μ-loop nums ts₀ left₀ n₀ good₀ ts left n good = 15 - n
+μ-loop nums ts₀ left₀ n₀ last₀ good₀ ts left n last good = 15 - n
 
 loop-holds : tie.Need-loop-holds Inv-loop μ-loop
 loop-holds c = (omega arith, terms-none)
@@ -42,6 +42,15 @@ sub-left c = search needs
 add-n : tie.Need-add-n Inv-loop μ-loop
 add-n c = search needs
 
+cast-last : tie.Need-cast-last Inv-loop μ-loop
+cast-last c = search needs
+
+cast-last-2 : tie.Need-cast-last-2 Inv-loop μ-loop
+cast-last-2 c = search needs
+
+mul-last : tie.Need-mul-last Inv-loop μ-loop
+mul-last c = omega (arith, light-loss (c .before .read-term .result .term) (c .before .read-term .ensures), c .before .read-term .ensures .1)
+
 loop-less : tie.Need-loop-less Inv-loop μ-loop
 loop-less c = search needs
 
@@ -49,13 +58,13 @@ loop-again : tie.Need-loop-again Inv-loop μ-loop
 loop-again c =
     let l = c .before .before .before .before .before .loop in
     let w = c .before .read-term in
-    (omega arith, terms-more (l .ts) (l .left) (l .n) (w .result .term) (omega arith) (w .ensures) (l .inv .1))
+    (omega arith, terms-more (l .ts) (l .left) (l .last) (l .n) (w .result .term) (omega arith) (w .ensures) (l .inv .1))
 
-mul-t38 : tie.Need-mul-t38 Inv-loop μ-loop
-mul-t38 c = search needs
+mul-t44 : tie.Need-mul-t44 Inv-loop μ-loop
+mul-t44 c = search needs
 
-add-t39 : tie.Need-add-t39 Inv-loop μ-loop
-add-t39 c = search needs
+add-t45 : tie.Need-add-t45 Inv-loop μ-loop
+add-t45 c = search needs
 
 returns : tie.Need-returns Inv-loop μ-loop
 returns c = let l = c .before .before .loop in terms-end (l .inv .0) (l .inv .1)
@@ -79,9 +88,12 @@ read-terms-spec =
     array-set-from-ts
     sub-left
     add-n
+    cast-last
+    cast-last-2
+    mul-last
     loop-less
     loop-again
-    mul-t38
-    add-t39
+    mul-t44
+    add-t45
     returns
     returns-2)

@@ -1,6 +1,7 @@
 -- `columns_check::run_ge` meets its contract.
 use borrow.Author.Needs.{needs}
-use Rattle.columns_check.proofs.Laws.{terms-fit}
+use borrow.Author.Tests.{ltb-false}
+use Rattle.columns_check.proofs.Laws.{terms-fit, terms-in-table}
 use Rattle.columns_check.proofs.run_ge.Statement.{statement}
 use Rattle.columns_check.proofs.run_ge.Tie as tie
 
@@ -33,8 +34,9 @@ nothing-requires c κs = search needs
 
 encode-linear-ge-mixed-from-info-requires : tie.Need-encode-linear-ge-mixed-from-info-requires
 encode-linear-ge-mixed-from-info-requires c κs =
-    let w = c .before .before .before .before .before .before .before .before .read-terms in
-    (w .ensures .small, (w .ensures .len, terms-fit (w .result) _ _ (c .nothing .result) (c .nothing .ensures) (w .ensures)))
+    let w = c .before .before .before .before .before .before .before .before .before .before .read-terms in
+    let h = ltb-false 24 (w .result .last) (c .before .before .before .before .before .before .if2 .left) in
+    (w .ensures .small, ((w .ensures .len, terms-in-table (w .result) (w .ensures) h), terms-fit (w .result) _ _ (c .nothing .result) (c .nothing .ensures) (w .ensures)))
 
 slice-aggregate-show-2 : tie.Need-slice-aggregate-show-2
 slice-aggregate-show-2 c = search needs

@@ -5,7 +5,7 @@ use lib.ListN.{length, length-map}
 use borrow.Author.Needs.{needs}
 use Rattle.log_adder.specs.ColumnInfo.{column-clauses}
 use Rattle.log_adder.proofs.ColumnStored.{column-fits, equated-added, equated-fits}
-use Rattle.log_adder.proofs.ColumnTerms.{column-equated, column-size}
+use Rattle.log_adder.proofs.ColumnTerms.{column-equated, column-in-table, column-size}
 use Rattle.log_adder.proofs.push_column.Statement.{statement}
 use Rattle.log_adder.proofs.push_column.Tie as tie
 
@@ -55,7 +55,7 @@ encode-linear-eq-mixed-from-info-requires c κs =
     let z = s .pre .0 in
     let i = c .before .before .infos .ensures in
     let f = column-fits (column-clauses (s .args .c)) (column-size (s .args .c) z (own-long s)) (s .args .base) (s .pre .1) in
-    (i .1, ((omega (arith, z), omega (arith, z)), equated-fits _ _ _ _ _ _ _ _ (i .0) (column-equated (s .args .c) z (own-long s)) f))
+    (i .1, ((omega (arith, z), omega (arith, z), rw (i .0) (column-in-table (s .args .c) z (own-long s))), equated-fits _ _ _ _ _ _ _ _ (i .0) (column-equated (s .args .c) z (own-long s)) f))
 
 same-length : tie.Need-same-length
 same-length c = search needs

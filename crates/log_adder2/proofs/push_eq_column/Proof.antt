@@ -4,7 +4,7 @@ use native.Mathlib.Omega.{arith}
 use lib.ListN.{length, length-map}
 use borrow.Author.Needs.{needs}
 use Rattle.log_adder.proofs.ColumnStored.{column-fits, equated-added, equated-fits}
-use Rattle.log_adder.proofs.ColumnTerms.{eq-column-equated, eq-column-size}
+use Rattle.log_adder.proofs.ColumnTerms.{eq-column-equated, eq-column-size, eq-in-table}
 use Rattle.log_adder2.specs.EqState.{eq-column-clauses}
 use Rattle.log_adder2.proofs.EqColumnStored.{two-terms}
 use Rattle.log_adder2.proofs.push_eq_column.Statement.{statement}
@@ -51,7 +51,8 @@ encode-linear-eq-mixed-from-info-requires c κs =
     let z = s .pre .0 in
     let i = c .before .infos .ensures in
     let f = column-fits (eq-column-clauses (a .c) (a .x) (a .y)) (eq-column-size (a .c) z (own-long s) (a .x) (a .y)) (a .base) (s .pre .1) in
-    (i .1, ((omega (arith, z), omega (arith, z)), equated-fits _ _ _ _ _ _ _ _ (two-terms (a .c) _ z (own-long s) (i .0)) (eq-column-equated (a .c) z (own-long s) (a .x) (a .y)) f))
+    let t = two-terms (a .c) _ z (own-long s) (i .0) in
+    (i .1, ((omega (arith, z), omega (arith, z), rw t (eq-in-table (a .c) z (own-long s))), equated-fits _ _ _ _ _ _ _ _ t (eq-column-equated (a .c) z (own-long s) (a .x) (a .y)) f))
 
 same-length : tie.Need-same-length
 same-length c = search needs
