@@ -8,7 +8,6 @@
 mod print; // print.rt: what is printed
 
 use clause_set::Counts;
-use libc::STDIN_FILENO;
 use lines::Line;
 use lines::Unsigned;
 use lines::Word;
@@ -20,6 +19,7 @@ use print::show;
 use print::show_clauses;
 use print::show_number;
 use sat::Lit;
+use streams::Input;
 ghost use mathlib.Core.Path.{_≡_};
 ghost use Prim.Native.Nat.{_+_, _≤_, _<_};
 ghost use lib.ListN.{length, replicate};
@@ -143,11 +143,10 @@ fn read_terms(nums: &[i64]) -> Terms
     }
 }
 
-fn run_ge(nums: &[i64], lits: &mut [u32], ends: &mut [u32]) {
+fn run_ge(nums: &[i64], lits: &mut [u32], ends: &mut [u32]) -> bool {
     let t = read_terms(nums);
     if !t.good || t.last > 24 {
-        show(b"bad line\n");
-        return;
+        return show(b"bad line\n");
     }
     let above = number(nums, 0) as u64;
     let below = number(nums, 1) as u64;
@@ -162,8 +161,7 @@ fn run_ge(nums: &[i64], lits: &mut [u32], ends: &mut [u32]) {
         0,
         nothing(),
     );
-    show(b"ge");
-    show_clauses(lits, ends, used);
+    show(b"ge") && show_clauses(lits, ends, used)
 }
 
 // Columns ----------------------------------------------------------------------------------------------------------------
@@ -251,32 +249,29 @@ fn gather(nums: &[i64], from: usize, counts: &mut [u32; 32]) -> [[Lit; 12]; 32]
 }
 
 // The literals of the sum's bits, behind the word and the variable count.
-fn show_bits(s: AdderState) {
-    show(b"adder");
-    show_number(s.vars);
+fn show_bits(s: AdderState) -> bool {
+    let mut written = show(b"adder") && show_number(s.vars);
     let bits = s.bits;
     let mut i: usize = 0;
-    while i < 32 && i < s.len {
+    while i < 32 && i < s.len && written {
         let l = bits[i];
-        show_number(l.0);
+        written = show_number(l.0);
         i += 1;
     }
-    show(b" :");
+    written && show(b" :")
 }
 
-fn run_adder(nums: &[i64], lits: &mut [u32], ends: &mut [u32])
+fn run_adder(nums: &[i64], lits: &mut [u32], ends: &mut [u32]) -> bool
     requires { ⌜ length (now nums) ≤ 511 ⌝ }
 {
     let vars = number(nums, 0);
     let width = number(nums, 2) as usize;
     let given = number(nums, 3) as usize;
     if vars > 1048576 || width > 26 || given > width || 4 + given > nums.len() {
-        show(b"bad line\n");
-        return;
+        return show(b"bad line\n");
     }
     if !rows_fit(nums, 4 + given) {
-        show(b"bad line\n");
-        return;
+        return show(b"bad line\n");
     }
     let mut counts = [0u32; 32];
     let cols = gather(nums, 4 + given, &mut counts);
@@ -286,16 +281,14 @@ fn run_adder(nums: &[i64], lits: &mut [u32], ends: &mut [u32])
         given,
     };
     if 12 < log_adder::greatest_height(counts, p.width, p.constant) {
-        show(b"tall\n");
-        return;
+        return show(b"tall\n");
     }
     let first = lits_from(nums, 4, given);
     let s = log_adder::log_encoding_adder(lits, ends, cols, counts, first, p, vars, nothing());
-    show_bits(s);
-    show_clauses(lits, ends, s.used);
+    show_bits(s) && show_clauses(lits, ends, s.used)
 }
 
-fn run_eq_adder(nums: &[i64], lits: &mut [u32], ends: &mut [u32])
+fn run_eq_adder(nums: &[i64], lits: &mut [u32], ends: &mut [u32]) -> bool
     requires { ⌜ length (now nums) ≤ 511 ⌝ }
 {
     let vars = number(nums, 0);
@@ -303,43 +296,41 @@ fn run_eq_adder(nums: &[i64], lits: &mut [u32], ends: &mut [u32])
     let x = number(nums, 1);
     let y = number(nums, 2);
     if vars > 1048576 || width > 26 || width == 0 || (x > 0 && y > 0) || !rows_fit(nums, 4) {
-        show(b"bad line\n");
-        return;
+        return show(b"bad line\n");
     }
     let mut counts = [0u32; 32];
     let cols = gather(nums, 4, &mut counts);
     let g = EqInput { width, x, y, vars };
     if 12 < log_adder2::eq_greatest_height(counts, width, x, y) {
-        show(b"tall\n");
-        return;
+        return show(b"tall\n");
     }
     let s = log_adder2::log_encoding_adder2(lits, ends, cols, counts, g, nothing());
-    show(b"eq_adder");
-    show_number(s.vars);
-    show_clauses(lits, ends, s.used);
+    show(b"eq_adder") && show_number(s.vars) && show_clauses(lits, ends, s.used)
 }
 
 // Lines ------------------------------------------------------------------------------------------------------------------
 
-// A line with this word and these numbers.
-fn run(word: Word, nums: &[i64], lits: &mut [u32], ends: &mut [u32])
+// A line with this word and these numbers. Answers, as the functions above do, whether all could be written.
+fn run(word: Word, nums: &[i64], lits: &mut [u32], ends: &mut [u32]) -> bool
     requires { ⌜ length (now nums) ≤ 511 ⌝ }
 {
     if !all_small(nums) {
-        show(b"bad line\n");
-    } else if lines::is_word(word, b"ge") {
-        run_ge(nums, lits, ends);
-    } else if lines::is_word(word, b"adder") {
-        run_adder(nums, lits, ends);
-    } else if lines::is_word(word, b"eq_adder") {
-        run_eq_adder(nums, lits, ends);
-    } else {
-        show(b"bad line\n");
+        return show(b"bad line\n");
     }
+    if lines::is_word(word, b"ge") {
+        return run_ge(nums, lits, ends);
+    }
+    if lines::is_word(word, b"adder") {
+        return run_adder(nums, lits, ends);
+    }
+    if lines::is_word(word, b"eq_adder") {
+        return run_eq_adder(nums, lits, ends);
+    }
+    show(b"bad line\n")
 }
 
 // A line that ends here.
-fn end_line(line: Line, nums: &mut [i64], lits: &mut [u32], ends: &mut [u32])
+fn end_line(line: Line, nums: &mut [i64], lits: &mut [u32], ends: &mut [u32]) -> bool
     requires { ⌜ length (now nums) ≤ 511 ⌝ }
 {
     let whole = lines::line_whole(nums, line);
@@ -347,10 +338,9 @@ fn end_line(line: Line, nums: &mut [i64], lits: &mut [u32], ends: &mut [u32])
     let numbers = whole.numbers;
     let n = numbers.count;
     if !numbers.good {
-        show(b"bad line\n");
-        return;
+        return show(b"bad line\n");
     }
-    run(word, &nums[..n], lits, ends);
+    run(word, &nums[..n], lits, ends)
 }
 
 fn run_lines(s: &[u8], nums: &mut [i64], lits: &mut [u32], ends: &mut [u32])
@@ -360,7 +350,10 @@ fn run_lines(s: &[u8], nums: &mut [i64], lits: &mut [u32], ends: &mut [u32])
     while at < s.len() {
         let fed = lines::feed(nums, lines::line_start(), s, at);
         let line = fed.line;
-        end_line(line, nums, lits, ends);
+        if !end_line(line, nums, lits, ends) {
+            streams::cannot_write();
+            return;
+        }
         at = fed.next;
     }
 }
@@ -369,7 +362,10 @@ fn run_lines(s: &[u8], nums: &mut [i64], lits: &mut [u32], ends: &mut [u32])
 fn run_input(input: &mut [u8], nums: &mut [i64], lits: &mut [u32], ends: &mut [u32])
     requires { ⌜ length (now nums) ≤ 511 ⌝ }
 {
-    let n = io::read_full(STDIN_FILENO, input);
+    let Input::Bytes(n) = streams::read_input(input) else {
+        streams::cannot_read();
+        return;
+    };
     run_lines(&input[..n], nums, lits, ends);
 }
 

@@ -1,28 +1,35 @@
-// What is printed: numbers, and clauses as the stores hold them.
+// What is printed: numbers, and clauses as the stores hold them. Each `show..` answers whether all of it could be written.
 ghost use Prim.Native.Nat.{_≤_, _<_};
 use clause_set::Counts;
 use clause_set::entry;
 use libc::STDOUT_FILENO;
 
-pub fn show(line: &[u8]) {
-    io::write_all(STDOUT_FILENO, line);
+pub fn show(line: &[u8]) -> bool {
+    io::write_all(STDOUT_FILENO, line)
+}
+
+// The first n bytes of `out`.
+fn show_part(out: &[u8], n: usize) -> bool {
+    if n > out.len() {
+        return false;
+    }
+    show(&out[..n])
 }
 
 // A number behind a space.
-pub fn show_number(n: u32) {
+pub fn show_number(n: u32) -> bool {
     let mut out = [0u8; 12];
     let from = text::put(&mut out, 0, b' ');
     let end = text::put_decimal(&mut out, from, n);
-    if end <= out.len() {
-        io::write_all(STDOUT_FILENO, &out[..end]);
-    }
+    show_part(&out, end)
 }
 
 // A count behind a space.
-fn show_count(n: usize) {
-    if n < 4294967296 {
-        show_number(n as u32);
+fn show_count(n: usize) -> bool {
+    if n >= 4294967296 {
+        return false;
     }
+    show_number(n as u32)
 }
 
 // The literals of a clause, each behind a space.
@@ -88,27 +95,24 @@ fn digest_clauses(lits: &[u32], ends: &[u32], n: usize) -> u64
     sum
 }
 
-// How many clauses and literals, then the clauses, or a check sum where there are many.
-pub fn show_clauses(lits: &[u32], ends: &[u32], used: Counts) {
-    show_count(used.clauses);
-    show_count(used.lits);
+// The clauses, or a check sum where there are many.
+fn show_contents(lits: &[u32], ends: &[u32], used: Counts) -> bool {
     if used.lits > lits.len() || used.clauses >= ends.len() {
-        show(b" too many\n");
-        return;
+        return show(b" too many");
     }
     if entry(ends, used.clauses) as usize != used.lits {
-        show(b" wrong end\n");
-        return;
+        return show(b" wrong end");
     }
     if used.lits > 400 {
-        show(b" sum");
-        show_number(digest_clauses(lits, ends, used.clauses) as u32);
-    } else {
-        let mut out = [0u8; 8192];
-        let end = put_clauses(&mut out, lits, ends, used.clauses);
-        if end <= out.len() {
-            io::write_all(STDOUT_FILENO, &out[..end]);
-        }
+        return show(b" sum") && show_number(digest_clauses(lits, ends, used.clauses) as u32);
     }
-    show(b"\n");
+    let mut out = [0u8; 8192];
+    let end = put_clauses(&mut out, lits, ends, used.clauses);
+    show_part(&out, end)
+}
+
+// How many clauses and literals, then these, and a line feed.
+pub fn show_clauses(lits: &[u32], ends: &[u32], used: Counts) -> bool {
+    let counted = show_count(used.clauses) && show_count(used.lits);
+    counted && show_contents(lits, ends, used) && show(b"\n")
 }

@@ -114,6 +114,15 @@ same-length-2 c = search needs
 returns-4 : tie.Need-returns-4
 returns-4 c = search needs
 
+same-length-3 : tie.Need-same-length-3
+same-length-3 c = search needs
+
+same-length-4 : tie.Need-same-length-4
+same-length-4 c = search needs
+
+returns-5 : tie.Need-returns-5
+returns-5 c = search needs
+
 pub run-adder-spec : {M : Type 1} → statement M
 run-adder-spec =
     tie.close
@@ -146,4 +155,7 @@ run-adder-spec =
     show-clauses-requires
     same-length
     same-length-2
-    returns-4)
+    returns-4
+    same-length-3
+    same-length-4
+    returns-5)

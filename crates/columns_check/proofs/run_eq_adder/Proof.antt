@@ -96,6 +96,15 @@ same-length-2 c = search needs
 returns-3 : tie.Need-returns-3
 returns-3 c = search needs
 
+same-length-3 : tie.Need-same-length-3
+same-length-3 c = search needs
+
+same-length-4 : tie.Need-same-length-4
+same-length-4 c = search needs
+
+returns-4 : tie.Need-returns-4
+returns-4 c = search needs
+
 pub run-eq-adder-spec : {M : Type 1} → statement M
 run-eq-adder-spec =
     tie.close
@@ -122,4 +131,7 @@ run-eq-adder-spec =
     show-clauses-requires
     same-length
     same-length-2
-    returns-3)
+    returns-3
+    same-length-3
+    same-length-4
+    returns-4)

@@ -1,7 +1,7 @@
 -- `columns_check::run_ge` meets its contract.
-use borrow.Author.Needs.{needs}
 use borrow.Author.Tests.{ltb-false}
 use Rattle.columns_check.proofs.Laws.{terms-fit, terms-in-table}
+use borrow.Author.Needs.{needs}
 use Rattle.columns_check.proofs.run_ge.Statement.{statement}
 use Rattle.columns_check.proofs.run_ge.Tie as tie
 
@@ -56,6 +56,15 @@ same-length-2 c = search needs
 returns-2 : tie.Need-returns-2
 returns-2 c = search needs
 
+same-length-3 : tie.Need-same-length-3
+same-length-3 c = search needs
+
+same-length-4 : tie.Need-same-length-4
+same-length-4 c = search needs
+
+returns-3 : tie.Need-returns-3
+returns-3 c = search needs
+
 pub run-ge-spec : {M : Type 1} → statement M
 run-ge-spec =
     tie.close
@@ -75,4 +84,7 @@ run-ge-spec =
     show-clauses-requires
     same-length
     same-length-2
-    returns-2)
+    returns-2
+    same-length-3
+    same-length-4
+    returns-3)

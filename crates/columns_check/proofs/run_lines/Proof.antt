@@ -24,11 +24,8 @@ feed-requires c κs = search needs
 end-line-requires : tie.Need-end-line-requires Inv-loop μ-loop
 end-line-requires c κs = search needs
 
-loop-less : tie.Need-loop-less Inv-loop μ-loop
-loop-less c = search needs
-
-loop-again : tie.Need-loop-again Inv-loop μ-loop
-loop-again c = search needs
+cannot-write-requires : tie.Need-cannot-write-requires Inv-loop μ-loop
+cannot-write-requires c κs = search needs
 
 same-length : tie.Need-same-length Inv-loop μ-loop
 same-length c = search needs
@@ -42,6 +39,24 @@ same-length-3 c = search needs
 returns : tie.Need-returns Inv-loop μ-loop
 returns c = search needs
 
+loop-less : tie.Need-loop-less Inv-loop μ-loop
+loop-less c = search needs
+
+loop-again : tie.Need-loop-again Inv-loop μ-loop
+loop-again c = search needs
+
+same-length-4 : tie.Need-same-length-4 Inv-loop μ-loop
+same-length-4 c = search needs
+
+same-length-5 : tie.Need-same-length-5 Inv-loop μ-loop
+same-length-5 c = search needs
+
+same-length-6 : tie.Need-same-length-6 Inv-loop μ-loop
+same-length-6 c = search needs
+
+returns-2 : tie.Need-returns-2 Inv-loop μ-loop
+returns-2 c = search needs
+
 pub run-lines-spec : {M : Type 1} → statement M
 run-lines-spec =
     tie.close
@@ -52,9 +67,14 @@ run-lines-spec =
     line-start-requires
     feed-requires
     end-line-requires
-    loop-less
-    loop-again
+    cannot-write-requires
     same-length
     same-length-2
     same-length-3
-    returns)
+    returns
+    loop-less
+    loop-again
+    same-length-4
+    same-length-5
+    same-length-6
+    returns-2)

@@ -5,10 +5,10 @@ use Rattle.columns_check.proofs.show_bits.Statement.{statement}
 use Rattle.columns_check.proofs.show_bits.Tie as tie
 
 abbrev Inv-loop : tie.InvT-loop
-Inv-loop s bits i₀ t6 i = Unit {0}
+Inv-loop s written₀ bits i₀ t7 written i = Unit {0}
 
 abbrev μ-loop : tie.MeasureT-loop
-μ-loop s bits i₀ t6 i = 32 - i
+μ-loop s written₀ bits i₀ t7 written i = 32 - i
 
 slice-aggregate-show : tie.Need-slice-aggregate-show Inv-loop μ-loop
 slice-aggregate-show c = search needs
@@ -49,6 +49,9 @@ show-requires-2 c κs = search needs
 returns : tie.Need-returns Inv-loop μ-loop
 returns c = search needs
 
+returns-2 : tie.Need-returns-2 Inv-loop μ-loop
+returns-2 c = search needs
+
 pub show-bits-spec : {M : Type 1} → statement M
 show-bits-spec =
     tie.close
@@ -67,4 +70,5 @@ show-bits-spec =
     loop-again
     slice-aggregate-show-2
     show-requires-2
-    returns)
+    returns
+    returns-2)
