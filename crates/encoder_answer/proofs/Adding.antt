@@ -1,6 +1,5 @@
 -- An accepted call that adds (`known`): what it had, and what it left. Of a rule: what its clauses say (`rule-encodes`, `rule-exact`), and
 -- that the job stays well formed (`rule-well-formed`).
-use mathlib.Core.Logic.{_↔_}
 use mathlib.Core.Path.{_≡_, _∙_, ap, refl}
 use mathlib.Core.Bool.{_&&_, true}
 use mathlib.Core.List.{List}
@@ -12,7 +11,7 @@ use borrow.Author.Tests.{leb-true}
 use Rattle.sat.specs.Clause.{Assignment, Clauses}
 use Rattle.sat.specs.Encoded.{EncodedRule}
 use Rattle.arithmetic.specs.Offset.{value}
-use Rattle.sat.specs.Encodes.{Agree, Any, Completed, Encodes}
+use Rattle.sat.specs.Encodes.{Agree, Any, Encodes}
 use Rattle.sat.proofs.Extend.{exactly-when}
 use Rattle.sat.proofs.Number.{code-agree}
 use Rattle.sat.specs.Size.{entries}
@@ -25,7 +24,7 @@ use Rattle.encoder_env.proofs.Kept.{Kept, well-formed-of}
 use Rattle.encoder_env.proofs.Records.{lits-known, records-more}
 use Rattle.encoder_env.proofs.Tests.{both}
 use Rattle.encoder_answer.specs.Adding.{added, adding, adding-status, grown}
-use Rattle.encoder_answer.specs.Encoded.{added-clauses, number}
+use Rattle.encoder_answer.specs.Encoded.{RuleExact, added-clauses, number}
 use Rattle.encoder_answer.specs.Outcome.{Check, Outcome, status-of}
 use Rattle.encoder_answer.proofs.Statuses.{Numbered, both-lists, passed, settled-accepted, settled-known}
 
@@ -129,9 +128,8 @@ module _ (checks : List Check) (env : EncoderEnv) (lits ends : List ℕ) (out : 
         rw (clauses-are checks env lits ends (out .clauses) job (a .accepted) refl, vars) (a .says)
 
     -- exactly when the rule holds, where the job's variables decide it
-    pub rule-exact : ((α β : Assignment) → Agree (env .variables) α β → R β → R α)
-        → (let o = adding checks env lits ends (out .clauses) job in (α : Assignment) → Completed (env .variables) (added-clauses env o) α ↔ R α)
-    rule-exact same = exactly-when same rule-encodes
+    pub rule-exact : ((α β : Assignment) → Agree (env .variables) α β → R β → R α) → RuleExact env (adding checks env lits ends (out .clauses) job) R
+    rule-exact same h = exactly-when same rule-encodes
 
     pub rule-well-formed : (let after = add-clauses 0 (out .clauses) (stores lits ends (env .literals) (env .clauses)) in
         well-formed job (length (after .lits)) (length (after .ends)) ≡ true)
