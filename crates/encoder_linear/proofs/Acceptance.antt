@@ -1,6 +1,6 @@
 -- A sum is accepted exactly where its arguments are within bounds, its columns are not too high and there is room.
 use mathlib.Core.Path.{_≡_}
-use mathlib.Core.Bool.{Bool, _&&_, false, not, true}
+use mathlib.Core.Bool.{_&&_, not, true}
 use mathlib.Core.List.{List}
 use mathlib.Core.Logic.{Iff·trans, _↔_}
 use Prim.Native.Nat.{_%_, _+_, _-_, _<_, _≤_, ℕ}

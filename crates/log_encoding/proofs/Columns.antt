@@ -1,13 +1,11 @@
 -- The adders write the clauses of the columns that they go through (`adder-adds`, `eq-adder-adds`), and the columns reached, from numbers
--- alone, are these (`adder-reached`, `eq-adder-reached`): of a sum (`sum-columns-are`) and of a product (`product-columns-are`).
-use Prim.Native.Nat.{_%_, _+_, _-_, _/_, _≤_, suc, zero, ℕ}
-use borrow.Author.Tests.{le-ltb, leb-false}
-use lib.Dec.{leb}
+-- alone, are these (`adder-reached`, `eq-adder-reached`): of a sum (`linear-log-columns`) and of a product (`mul-columns`).
+use Prim.Native.Nat.{_%_, _+_, _-_, _/_, suc, zero, ℕ}
+use borrow.Author.Tests.{leb-false}
 use lib.IntN.{ℤ}
 use lib.ListN.{length}
 use mathlib.Core.Bool.{Bool, cond, false, true}
 use mathlib.Core.List.{List, [], _++_, _∷_, append-nil, map}
-use mathlib.Core.Logic.{_↔_}
 use mathlib.Core.Option.{Option, none, some}
 use mathlib.Core.Path.{_∙_, _≡_, ap, ap₂, refl, sym}
 use native.Mathlib.Omega.{arith}
@@ -22,14 +20,14 @@ use Rattle.log_encoding.specs.Column.{column}
 use Rattle.log_encoding.specs.Adder.{AdderColumn, adder, carry-size, empty-column, extend, result, result-vars, tail}
 use Rattle.log_encoding.specs.Adder2.{Adder2Output, EqColumn, LastColumn, NewCarry, adder2, column-answer, column-and-rest, eq-adder, eq-column, eq-columns, last-column, ordering, prepend, returned-set, unless-dead}
 use Rattle.log_encoding.specs.Gather.{Grid, pad-columns, with-constant}
-use Rattle.log_encoding.specs.AdderSize.{Reached, column-shape, eq-column-reached, eq-reached, greatest-height, has-carry, height, own-counts, reached, reached-column, reached-past, too-tall}
+use Rattle.log_encoding.specs.AdderSize.{Reached, column-shape, eq-column-reached, eq-reached, has-carry, height, own-counts, reached, reached-column, reached-past}
 use Rattle.log_encoding.specs.Linear.{Weighted, gather, gather-sign, negated-constant, sign-adder}
-use Rattle.log_encoding.specs.LinearSize.{gather-counts, linear-log-reached, linear-reached, shape-of, sign-reached, sum-plus, sum-target, term-shapes}
+use Rattle.log_encoding.specs.LinearSize.{linear-log-reached, linear-reached, shape-of, sign-reached}
 use Rattle.log_encoding.specs.Multiply.{multiplier, rows-grid, rows-vars}
-use Rattle.log_encoding.specs.MulSize.{mul-reached, multiplier-reached, no-offsets, offset-shapes, offsets-reached}
+use Rattle.log_encoding.specs.MulSize.{mul-reached, multiplier-reached, no-offsets, offsets-reached}
 use Rattle.log_encoding.specs.EncodeLinearLog.{offset-constant, weighted-terms}
 use Rattle.log_encoding.specs.EncodeMulLog.{mul-constant, offset-terms}
-use Rattle.log_encoding.specs.Columns.{AddedColumn, AdderAdds, EqAddedColumn, EqAdds, added-column, adder-columns, adder2-columns, carry-lits, column-then, columns-clauses, columns-returned, columns-sent, eq-adder-columns, eq-reached-of, eq-sum-columns, extend-columns, multiplier-columns, offsets-columns, product-columns, reached-of, sign-columns, sum-columns}
+use Rattle.log_encoding.specs.Columns.{AddedColumn, AdderAdds, EqAddedColumn, EqAdds, added-column, adder-columns, adder2-columns, column-then, columns-returned, columns-sent, eq-adder-columns, eq-reached-of, eq-sum-columns, extend-columns, multiplier-columns, offsets-columns, product-columns, reached-of, sign-columns, sum-columns}
 use Rattle.log_encoding.proofs.AdderSize.{pad-columns-shapes}
 use Rattle.log_encoding.proofs.LinearSize.{gather-counts-are, gather-sign-counts, negated-bits-are, term-shapes-are, with-constant-shapes}
 use Rattle.log_encoding.proofs.MulSize.{multiplier-size, offset-shapes-are, rows-grid-counts}
@@ -106,6 +104,7 @@ adder2-adds (col ∷ cols) last carry v =
           returned-are = ap (prepend (eq-column (col .own) carry 0 (next .lits) (col .target))) (rest .returned-are);
         }
 
+-- without a column, Eq has at most one empty clause
 pub eq-adder-adds : (c : List ℕ) (cols : Grid) (x y v : ℕ) → EqAdds (eq-adder (c ∷ cols) x y v) (eq-adder-columns (c ∷ cols) x y v)
 eq-adder-adds c cols x y v =
     let a = adder2-adds (eq-columns (c ∷ cols) x y) (last-column (c ∷ cols) x y) [] v in
