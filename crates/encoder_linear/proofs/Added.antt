@@ -1,5 +1,4 @@
--- An accepted sum: its terms are known and within bounds (`SumKnown`), and its clauses are right (`linear-encodes`,
--- `linear-exact`).
+-- An accepted sum: its terms are known and within bounds (`SumKnown`), and its clauses are right (`linear-encodes`, `linear-exact`).
 use mathlib.Core.Path.{_≡_, ap₂, refl, subst, sym}
 use mathlib.Core.Bool.{_&&_, false, not, true}
 use mathlib.Core.List.{List, [], _∷_}
