@@ -1,5 +1,6 @@
--- The adders write the clauses of the columns that they go through (`adder-adds`, `eq-adder-adds`), and the columns reached, from numbers
--- alone, are these (`adder-reached`, `eq-adder-reached`): of a sum (`linear-log-columns`) and of a product (`mul-columns`).
+-- The adders write the clauses of the columns that they go through (`adder-adds`, `eq-adder-adds`; of sums and products `compared-adds`,
+-- `eq-sum-adds`, `multiplier-adds`), and the columns reached, from numbers alone, are these (`adder-reached`, `eq-adder-reached`): of a
+-- sum (`linear-log-columns`) and of a product (`mul-columns`).
 use Prim.Native.Nat.{_%_, _+_, _-_, _/_, suc, zero, ℕ}
 use borrow.Author.Tests.{leb-false}
 use lib.IntN.{ℤ}
@@ -7,7 +8,7 @@ use lib.ListN.{length}
 use mathlib.Core.Bool.{Bool, cond, false, true}
 use mathlib.Core.List.{List, [], _++_, _∷_, append-nil, map}
 use mathlib.Core.Option.{Option, none, some}
-use mathlib.Core.Path.{_∙_, _≡_, ap, ap₂, refl, sym}
+use mathlib.Core.Path.{_∙_, _≡_, ap, ap₂, refl, subst, sym}
 use native.Mathlib.Omega.{arith}
 use Rattle.arithmetic.specs.Integers.{down, up}
 use Rattle.sat.specs.Clause.{Clauses}
@@ -21,13 +22,13 @@ use Rattle.log_encoding.specs.Adder.{AdderColumn, adder, carry-size, emp
 use Rattle.log_encoding.specs.Adder2.{Adder2Output, EqColumn, LastColumn, NewCarry, adder2, column-answer, column-and-rest, eq-adder, eq-column, eq-columns, last-column, ordering, prepend, returned-set, unless-dead}
 use Rattle.log_encoding.specs.Gather.{Grid, pad-columns, with-constant}
 use Rattle.log_encoding.specs.AdderSize.{Reached, column-shape, eq-column-reached, eq-reached, has-carry, height, own-counts, reached, reached-column, reached-past}
-use Rattle.log_encoding.specs.Linear.{Weighted, gather, gather-sign, negated-constant, sign-adder}
+use Rattle.log_encoding.specs.Linear.{Weighted, comparison, gather, gather-sign, linear-compared, linear-eq, negated-constant, sign-adder}
 use Rattle.log_encoding.specs.LinearSize.{linear-log-reached, linear-reached, shape-of, sign-reached}
-use Rattle.log_encoding.specs.Multiply.{multiplier, rows-grid, rows-vars}
+use Rattle.log_encoding.specs.Multiply.{multiplier, rows, rows-grid, rows-vars}
 use Rattle.log_encoding.specs.MulSize.{mul-reached, multiplier-reached, no-offsets, offsets-reached}
 use Rattle.log_encoding.specs.EncodeLinearLog.{offset-constant, weighted-terms}
 use Rattle.log_encoding.specs.EncodeMulLog.{mul-constant, offset-terms}
-use Rattle.log_encoding.specs.Columns.{AddedColumn, AdderAdds, EqAddedColumn, EqAdds, added-column, adder-columns, adder2-columns, column-then, columns-returned, columns-sent, eq-adder-columns, eq-reached-of, eq-sum-columns, extend-columns, multiplier-columns, offsets-columns, product-columns, reached-of, sign-columns, sum-columns}
+use Rattle.log_encoding.specs.Columns.{AddedColumn, AdderAdds, EqAddedColumn, EqAdds, added-column, adder-columns, adder2-columns, column-then, columns-clauses, columns-returned, columns-sent, eq-adder-columns, eq-reached-of, eq-sum-columns, extend-columns, multiplier-columns, offsets-columns, product-columns, reached-of, sign-columns, sum-columns}
 use Rattle.log_encoding.proofs.AdderSize.{pad-columns-shapes}
 use Rattle.log_encoding.proofs.LinearSize.{gather-counts-are, gather-sign-counts, negated-bits-are, term-shapes-are, with-constant-shapes}
 use Rattle.log_encoding.proofs.MulSize.{multiplier-size, offset-shapes-are, rows-grid-counts}
@@ -144,6 +145,32 @@ eq-adder-reached [] x y v = refl
 eq-adder-reached (c ∷ cols) x y v = adder2-reached c cols x y [] v
 
 -- Sums and products ---------------------------------------------------------------------------------------------------
+
+-- Ne and Ge write the clauses of both signs' columns, then those of the comparison
+pub compared-adds : (is-ne : Bool) (ps : List Weighted) (a b v : ℕ)
+    → (let plus = sign-adder false ps a v in
+    let minus = sign-adder true ps b (plus .vars) in
+    linear-compared is-ne ps a b v .clauses
+    ≡ (columns-clauses (sign-columns false ps a v) ++ columns-clauses (sign-columns true ps b (plus .vars)))
+    ++ comparison is-ne (plus .bits) (minus .bits) (minus .vars) .clauses)
+compared-adds is-ne ps a b v =
+    let plus = sign-adder false ps a v in
+    let minus = sign-adder true ps b (plus .vars) in
+    ap₂ (λ (p n : Clauses). (p ++ n) ++ comparison is-ne (plus .bits) (minus .bits) (minus .vars) .clauses)
+    (adder-adds (with-constant 32 (gather-sign false ps ([] ∷ [])) a) [] [] v .clauses-are)
+    (adder-adds (with-constant 32 (gather-sign true ps ([] ∷ [])) b) [] [] (plus .vars) .clauses-are)
+
+-- Eq, where the terms make a column
+pub eq-sum-adds : (ps : List Weighted) (a b v : ℕ) (c : List ℕ) (cols : Grid) → gather ps [] ≡ c ∷ cols → EqAdds (linear-eq ps a b v) (eq-sum-columns ps a b v)
+eq-sum-adds ps a b v c cols e =
+    let x = a - (b + negated-constant ps) in
+    let y = b + negated-constant ps - a in
+    subst (λ (grid : Grid). EqAdds (eq-adder grid x y v) (eq-adder-columns grid x y v)) (sym e) (eq-adder-adds c cols x y v)
+
+-- a multiplier writes a gate for each pair of bits, then the clauses of its columns
+pub multiplier-adds : (xs ys rs : List ℕ) (v : ℕ) → multiplier xs ys rs v .clauses ≡ rows xs ys v ++ columns-clauses (multiplier-columns xs ys rs v)
+multiplier-adds xs ys rs v =
+    ap (λ (cs : Clauses). rows xs ys v ++ cs) (adder-adds (pad-columns (length rs) (rows-grid xs ys 0 v [])) [] rs (rows-vars xs ys v) .clauses-are)
 
 sign-columns-are : (s : Bool) (ps : List Weighted) (k v : ℕ) → map reached-of (sign-columns s ps k v) ≡ sign-reached s (map shape-of ps) k
 sign-columns-are s ps k v =
