@@ -1,8 +1,9 @@
 -- Laws of shifts, bits and bit lengths.
-use Prim.Native.Nat.{_%_, _*_, _+_, _/_, _<_, _≤_, suc, zero, ℕ}
+use Prim.Native.Nat.{_%_, _*_, _+_, _/_, _<_, _^_, _≤_, suc, zero, ℕ}
 use borrow.Author.Tests.{eqb-false, eqb-true}
 use mathlib.Core.Bool.{Bool, cond, false, true}
 use mathlib.Core.Path.{_≡_, refl}
+use native.Mathlib.Nat.{pow-suc}
 use native.Mathlib.Omega.{arith}
 use Rattle.arithmetic.specs.Bits.{bit-length, bit-length-within, odd, shl}
 
@@ -25,6 +26,10 @@ shl-mul (suc o) k x = omega (arith, shl-mul o k x)
 pub shl-none : (o x : ℕ) → shl o x ≡ 0 → x ≡ 0
 shl-none zero x e = e
 shl-none (suc o) x e = shl-none o x (omega arith)
+
+pub shl-power : (o : ℕ) → shl o 1 ≡ 2 ^ o
+shl-power zero = refl
+shl-power (suc o) = rw pow-suc (omega (arith, shl-power o))
 
 -- a number by its lowest bit
 pub low-bit : (k : ℕ) → k ≡ cond (odd k) 1 0 + 2 * (k / 2)

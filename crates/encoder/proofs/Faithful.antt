@@ -1,13 +1,13 @@
 -- Demand 3 (`demand-3`): the statement follows from what every call keeps, and every call keeps it.
 use Prim.Native.Nat.{_<_, _≤_, suc, zero, ℕ}
-use lib.Dec.{eqb, leb}
+use lib.Dec.{eqb}
 use lib.IntN.{pos}
 use lib.ListN.{getD, length}
 use mathlib.Core.Bool.{Bool, So, cond, false, true}
 use mathlib.Core.List.{List, [], _∷_}
 use mathlib.Core.Path.{_∙_, _≡_, ap, refl, subst, sym}
 use native.Mathlib.Omega.{arith}
-use borrow.Author.Tests.{eqb-false, eqb-true, le-leb}
+use borrow.Author.Tests.{eqb-false, eqb-true}
 use Rattle.sat.specs.Clause.{Assignment, Clauses, sat}
 use Rattle.sat.specs.Encodes.{Agree, ClausesBelow, LitsBelow}
 use Rattle.sat.specs.Size.{entries}
@@ -22,9 +22,10 @@ use Rattle.log_var.specs.Record.{lits-of}
 use Rattle.log_var.proofs.Reading.{read-bytes-is}
 use Rattle.encoder_env.specs.WellFormed.{encoding-at}
 use Rattle.encoder_env.proofs.Kept.{Kept, kept}
-use Rattle.encoder_env.proofs.Records.{all-true, lits-known}
+use Rattle.encoder_env.proofs.Bounds.{well-formed-is}
+use Rattle.encoder_env.proofs.Records.{lits-known}
 use Rattle.encoder_answer.specs.Encoded.{number}
-use Rattle.encoder_read.specs.Calls.{all-bits, clause-checks, clause-read, open-outcome, read-checks, value-read}
+use Rattle.encoder_read.specs.Calls.{clause-checks, clause-read, open-outcome, read-checks, value-read}
 use Rattle.encoder_var.specs.Settings.{setting-checks, setting-outcome, with-encoding}
 use Rattle.encoder_answer.specs.Adding.{added, adding, adding-status, grown}
 use Rattle.encoder_mul.specs.Products.{mul-checks, product-encoded}
@@ -54,14 +55,11 @@ module _ {A : Type 0} where
   first-at (suc n) f d zero h = refl
   first-at (suc n) f d (suc x) h = first-at n (λ i. f (suc i)) d x (omega arith)
 
--- bytes of 0 and 1 pass the test of a reading
+-- bytes of 0 and 1, place by place
 bits-at : (bytes : List ℕ) (i : ℕ) → Bits bytes → getD bytes i 0 ≤ 1
 bits-at [] i b = omega arith
 bits-at (x ∷ bytes) zero b = omega (arith, b .0)
 bits-at (x ∷ bytes) (suc i) b = bits-at bytes i (b .1)
-
-bits-pass : (bytes : List ℕ) → Bits bytes → all-bits bytes ≡ true
-bits-pass bytes b = all-true (λ i. leb (getD bytes i 0) 1) (length bytes) (λ i _. le-leb (getD bytes i 0) 1 (bits-at bytes i b))
 
 -- From the invariant to the statement --------------------------------------------------------------------------------
 
@@ -78,7 +76,14 @@ module _ (s : State) (b : NormCsp) (cs : Clauses) (inv : Invariant s b cs) where
   -- Readings
   module _ (bytes : List ℕ) (is : IsAssignment v bytes) where
     read-status : (x : ℕ) → x < n → outcome s (get-int-value x bytes) .status ≡ 0
-    read-status x h = read-accepted (s .env) (s .lits) (s .ends) x bytes (inv .well) (omega (arith, inv .count)) (is .long) (bits-pass bytes (is .bits))
+    read-status x h =
+        read-accepted (s .env) (s .lits) (s .ends) x bytes .1
+        (record {
+          job = well-formed-is (s .env) (length (s .lits)) (length (s .ends)) .0 (inv .well);
+          setting = omega (arith, inv .count);
+          long = is .long;
+          bits = λ i _. bits-at bytes i (is .bits);
+        })
 
     read-value : (x : ℕ) → x < n → outcome s (get-int-value x bytes) .value ≡ number (s .env) (truth bytes) x
     read-value x h =

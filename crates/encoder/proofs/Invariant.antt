@@ -9,10 +9,8 @@ use mathlib.Core.List.{List, [], _++_}
 use mathlib.Core.Path.{_∙_, _≡_, ap, refl, subst, sym}
 use native.Mathlib.Omega.{arith}
 use borrow.Author.Tests.{leb-true}
-use Rattle.arithmetic.specs.Offset.{value}
 use Rattle.sat.specs.Clause.{Assignment, Clauses, sat}
 use Rattle.sat.specs.Encodes.{Agree, ClausesBelow}
-use Rattle.sat.proofs.Number.{code-agree}
 use Rattle.sat.specs.Size.{entries}
 use Rattle.clause_set.specs.Stores.{Sound, add-clauses, clauses-of, stores}
 use Rattle.sat.proofs.Size.{entries-append}
@@ -20,13 +18,11 @@ use Rattle.clause_set.proofs.Adding.{count-after, used-after}
 use Rattle.clause_set.proofs.ReadBack.{read-back}
 use Rattle.norm_csp.specs.NormCsp.{NormCsp, Satisfied, begun}
 use Rattle.norm_csp.proofs.NormCsp.{Known}
-use Rattle.log_var.specs.Record.{lits-of}
-use Rattle.encoder_env.specs.WellFormed.{all-below, encoding-at, eqz, is-spare, record-holds, stores-within, well-formed}
+use Rattle.encoder_env.specs.WellFormed.{all-below, eqz, is-spare, record-holds, stores-within, well-formed}
 use Rattle.encoder_env.proofs.Kept.{kept, well-formed-of}
-use Rattle.encoder_env.proofs.Records.{lits-known}
 use Rattle.encoder_env.proofs.Tests.{both}
 use Rattle.encoder_env.specs.declared.EncoderEnv.{EncoderEnv}
-use Rattle.encoder_answer.proofs.Adding.{Accepted}
+use Rattle.encoder_answer.proofs.Adding.{Accepted, number-same}
 use Rattle.encoder_answer.specs.Encoded.{number}
 use Rattle.encoder_read.specs.Calls.{open-checks, open-outcome, opened}
 use Rattle.encoder_answer.specs.Outcome.{Check, Outcome, status-of}
@@ -56,9 +52,8 @@ pub record Invariant (s : State) (b : NormCsp) (cs : Clauses) : Type 0 where
 pub number-agree : (s : State) (b : NormCsp) (cs : Clauses) → Invariant s b cs → (α β : Assignment) → Agree (s .env .variables) α β
     → (x : ℕ) → x < length (b .vars) → number (s .env) α x ≡ number (s .env) β x
 number-agree s b cs inv α β h x lt =
-    let e = encoding-at (s .env) x in
     let k = kept (s .env) (length (s .lits)) (length (s .ends)) (inv .well) in
-    ap (value (e .offset)) (code-agree (s .env .variables) α β h (lits-of e) (lits-known (s .env) (length (s .lits)) (length (s .ends)) x k (omega (arith, inv .count))))
+    number-same (s .env) (length (s .lits)) (length (s .ends)) k α β h x (omega (arith, inv .count))
 
 -- The stores of a call that adds --------------------------------------------------------------------------------------
 

@@ -1,26 +1,30 @@
--- An accepted call that adds (`known`): what it had, and what it left. Of a rule: what its clauses say (`rule-encodes`), and that the job
--- stays well formed (`rule-well-formed`).
+-- An accepted call that adds (`known`): what it had, and what it left. Of a rule: what its clauses say (`rule-encodes`, `rule-exact`), and
+-- that the job stays well formed (`rule-well-formed`).
 use mathlib.Core.Path.{_≡_, _∙_, ap, refl}
 use mathlib.Core.Bool.{_&&_, true}
 use mathlib.Core.List.{List}
-use Prim.Native.Nat.{_+_, _-_, _≤_, ℕ}
+use Prim.Native.Nat.{_+_, _-_, _<_, _≤_, ℕ}
 use native.Mathlib.Omega.{arith}
 use lib.Dec.{leb}
 use lib.ListN.{getD, length}
 use borrow.Author.Tests.{leb-true}
 use Rattle.sat.specs.Clause.{Assignment, Clauses}
 use Rattle.sat.specs.Encoded.{EncodedRule}
-use Rattle.sat.specs.Encodes.{Any, Encodes}
+use Rattle.arithmetic.specs.Offset.{value}
+use Rattle.sat.specs.Encodes.{Agree, Any, Encodes}
+use Rattle.sat.proofs.Extend.{exactly-when}
+use Rattle.sat.proofs.Number.{code-agree}
 use Rattle.sat.specs.Size.{entries}
 use Rattle.clause_set.specs.Stores.{Stores, add-clauses, clauses-after, clauses-from, stores}
 use Rattle.clause_set.proofs.ReadBack.{added-back, from-after, kept-end, kept-long}
 use Rattle.encoder_env.specs.declared.EncoderEnv.{EncoderEnv}
-use Rattle.encoder_env.specs.WellFormed.{all-below, record-holds, well-formed}
+use Rattle.log_var.specs.Record.{lits-of}
+use Rattle.encoder_env.specs.WellFormed.{all-below, encoding-at, record-holds, well-formed}
 use Rattle.encoder_env.proofs.Kept.{Kept, well-formed-of}
-use Rattle.encoder_env.proofs.Records.{records-more}
+use Rattle.encoder_env.proofs.Records.{lits-known, records-more}
 use Rattle.encoder_env.proofs.Tests.{both}
 use Rattle.encoder_answer.specs.Adding.{added, adding, adding-status, grown}
-use Rattle.encoder_answer.specs.Encoded.{added-clauses}
+use Rattle.encoder_answer.specs.Encoded.{RuleExact, added-clauses, number}
 use Rattle.encoder_answer.specs.Outcome.{Check, Outcome, status-of}
 use Rattle.encoder_answer.proofs.Statuses.{Numbered, both-lists, passed, settled-accepted, settled-known}
 
@@ -97,6 +101,13 @@ module _ (checks : List Check) (env : EncoderEnv) (lits ends : List ℕ) (clause
           records = r;
         })
 
+-- assignments that agree on the job's variables read a setting as the same number
+pub number-same : (env : EncoderEnv) (lits ends : ℕ) → Kept env lits ends → (α β : Assignment) → Agree (env .variables) α β
+    → (x : ℕ) → x < env .count → number env α x ≡ number env β x
+number-same env lits ends k α β g x h =
+    let e = encoding-at env x in
+    ap (value (e .offset)) (code-agree (env .variables) α β g (lits-of e) (lits-known env lits ends x k h))
+
 -- An accepted rule ---------------------------------------------------------------------------------------------------
 
 module _ (checks : List Check) (env : EncoderEnv) (lits ends : List ℕ) (out : EncodedRule) (R : Assignment → Type 0) where
@@ -115,6 +126,10 @@ module _ (checks : List Check) (env : EncoderEnv) (lits ends : List ℕ) (out : 
         let o = adding checks env lits ends (out .clauses) job in
         let vars : o .env .variables ≡ out .vars = ap (λ (x : Outcome). x .env .variables) (a .accepted .outcome-is) in
         rw (clauses-are checks env lits ends (out .clauses) job (a .accepted) refl, vars) (a .says)
+
+    -- exactly when the rule holds, where the job's variables decide it
+    pub rule-exact : ((α β : Assignment) → Agree (env .variables) α β → R β → R α) → RuleExact env (adding checks env lits ends (out .clauses) job) R
+    rule-exact same h = exactly-when same rule-encodes
 
     pub rule-well-formed : (let after = add-clauses 0 (out .clauses) (stores lits ends (env .literals) (env .clauses)) in
         well-formed job (length (after .lits)) (length (after .ends)) ≡ true)

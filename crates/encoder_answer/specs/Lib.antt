@@ -2,3 +2,4 @@ pub mod Outcome
 pub mod Adding
 pub mod Sizes
 pub mod Encoded
+pub mod Accepted

@@ -69,7 +69,7 @@ pub record Readable (e : LogEncoding) : Type 0 where
   pub offset-up : up (e .offset) ≡ 0
   pub offset-down : down (e .offset) ≤ 4095
 
-readable : (variables : ℕ) (e : LogEncoding) → encoding-holds variables e ≡ true → Readable e
+pub readable : (variables : ℕ) (e : LogEncoding) → encoding-holds variables e ≡ true → Readable e
 unfolding encoding-holds
 readable variables e h =
     let b : bounds-hold (e .low) (e .high) ≡ true = search (both-l, both-r) depth 6 in

@@ -1,3 +1,4 @@
 pub mod Tests
 pub mod Kept
 pub mod Records
+pub mod Bounds

@@ -38,7 +38,7 @@ each-below v zero ls h = tt
 each-below v (suc n) [] h = tt
 each-below v (suc n) (l ∷ ls) h = (h 0 (omega arith), each-below v n ls (λ i k. h (suc i) (omega arith)))
 
-fit-below : (v : ℕ) (e : Encoding) → e .len ≤ 12 → lits-fit v (e .len) (e .lits) ≡ true → (i : ℕ) → i < e .len → getD (e .lits) i (lit 0) .0 < 2 * v
+pub fit-below : (v : ℕ) (e : Encoding) → e .len ≤ 12 → lits-fit v (e .len) (e .lits) ≡ true → (i : ℕ) → i < e .len → getD (e .lits) i (lit 0) .0 < 2 * v
 fit-below v e n h i k = go (ltb i (e .len)) (lt-ltb i (e .len) k) (all-at (lit-fits v (e .len) (e .lits)) 12 i h (omega arith))
   where
     go : (t : Bool) → t ≡ true → cond t (ltb (getD (e .lits) i (lit 0) .0) (2 * v)) (eqb (getD (e .lits) i (lit 0) .0) 0) ≡ true → getD (e .lits) i (lit 0) .0 < 2 * v

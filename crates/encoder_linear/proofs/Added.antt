@@ -1,19 +1,19 @@
--- An accepted sum: its terms are known and within bounds (`SumKnown`), and its clauses are right (`linear-encodes`).
-use mathlib.Core.Path.{_≡_}
+-- An accepted sum: its terms are known and within bounds (`SumKnown`), and its clauses are right (`linear-encodes`, `linear-exact`).
+use mathlib.Core.Path.{_≡_, ap₂, refl, subst, sym}
 use mathlib.Core.Bool.{_&&_, false, not, true}
 use mathlib.Core.List.{List, [], _∷_}
 use Prim.Native.Nat.{_%_, _*_, _+_, _<_, _≤_, suc, ℕ}
 use native.Mathlib.Omega.{arith}
 use lib.Dec.{eqb, leb, lit<, ltb}
-use lib.IntN.{negsuc, pos, ℤ}
+use lib.IntN.{_*ℤ_, _+ℤ_, negsuc, pos, ℤ}
 use lib.ListN.{length}
 use lib.Signed.{ltZ}
 use borrow.Author.Tests.{leb-true, ltb-true, not-true}
 use Rattle.arithmetic.specs.Integers.{down, up}
 use Rattle.arithmetic.proofs.Integers.{apart-read, less-read}
 use Rattle.sat.specs.Clause.{Assignment}
-use Rattle.sat.specs.Encodes.{Any, Encodes}
-use Rattle.norm_csp.specs.Rules.{LinearHolds, LinearTerm, op-of, terms-of}
+use Rattle.sat.specs.Encodes.{Agree, Any, Encodes}
+use Rattle.norm_csp.specs.Rules.{Compares, LinearHolds, LinearTerm, linear-sum, op-of, terms-of}
 use Rattle.log_encoding.specs.AdderSize.{too-tall}
 use Rattle.log_encoding.specs.EncodeLinearLog.{TermsBelow}
 use Rattle.log_encoding.proofs.EncodeLinearLog.{InBounds, encode-linear-log-encodes, offset-constant-small}
@@ -23,11 +23,11 @@ use Rattle.encoder_env.proofs.Kept.{Kept, all-at, in-use, kept}
 use Rattle.encoder_env.proofs.Records.{lits-known}
 use Rattle.encoder_env.proofs.Tests.{both, lez-read}
 use Rattle.encoder_answer.specs.Adding.{grown}
-use Rattle.encoder_linear.specs.Encoded.{LinearEncodes}
-use Rattle.encoder_answer.specs.Encoded.{RuleEncodes, number}
+use Rattle.encoder_linear.specs.Encoded.{LinearEncodes, LinearExact}
+use Rattle.encoder_answer.specs.Encoded.{RuleEncodes, RuleExact, number}
 use Rattle.encoder_answer.specs.Outcome.{Check, check, status-of}
 use Rattle.encoder_linear.specs.Sums.{argument-checks, coef-at, coef-fits, coefs-fit, constant-fits, linear-checks, linear-outcome, setting-at, setting-known, settings-known, settings-rise, sum-encoded, sum-reached, term-count, terms-paired}
-use Rattle.encoder_answer.proofs.Adding.{RuleAdded, known, rule-encodes}
+use Rattle.encoder_answer.proofs.Adding.{RuleAdded, known, number-same, rule-encodes, rule-exact}
 use Rattle.encoder_answer.proofs.Statuses.{Numbered, both-lists, passed}
 
 -- Terms --------------------------------------------------------------------------------------------------------------
@@ -143,6 +143,13 @@ module _ (env : EncoderEnv) (lits ends op : ℕ) (constant : ℤ) (terms : List 
         let r = in-use env lits ends (t .var) k (h .0 .setting) in
         ((h .0 .coef, r .offset-up, r .offset-down), in-bounds ts (h .1))
 
+  -- assignments that agree on the job's variables give the terms the same sum
+  sum-same : Kept env lits ends → (α β : Assignment) → Agree (env .variables) α β → (ts : List LinearTerm) → AllKnown (env .count) ts
+      → linear-sum (number env α) constant ts ≡ linear-sum (number env β) constant ts
+  sum-same k α β g [] h = refl
+  sum-same k α β g (t ∷ ts) h =
+      ap₂ (λ (a b : ℤ). t .coef *ℤ a +ℤ b) (number-same env lits ends k α β g (t .var) (h .0 .setting)) (sum-same k α β g ts (h .1))
+
   pub sum-encodes : SumKnown
       → (let out = sum-encoded env op constant terms in
       Encodes (env .variables) (out .vars) Any (λ α. LinearHolds (number env α) (op-of op) constant (terms-of terms)) (out .clauses))
@@ -174,5 +181,16 @@ module _ (env : EncoderEnv) (lits ends : List ℕ) (op : ℕ) (constant : ℤ) (
   encoded : RuleEncodes env (linear-outcome env lits ends op constant terms) Rule
   encoded h = rule-encodes checks env lits ends (sum-encoded env op constant terms) Rule (sum-added h .1)
 
+  exact : RuleExact env (linear-outcome env lits ends op constant terms) Rule
+  exact h =
+      let (s, a) = sum-added h in
+      rule-exact checks env lits ends (sum-encoded env op constant terms) Rule a
+      (λ α β g r.
+      subst (Compares (op-of op)) (sym (sum-same env (length lits) (length ends) op constant terms (a .holds) α β g (terms-of terms) (s .terms-are))) r)
+      h
+
 pub linear-encodes : LinearEncodes
 linear-encodes = encoded
+
+pub linear-exact : LinearExact
+linear-exact = exact

@@ -1,3 +1,4 @@
 pub mod Sums
 pub mod Ready
 pub mod Encoded
+pub mod Accepted

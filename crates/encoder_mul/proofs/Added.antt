@@ -1,10 +1,11 @@
--- An accepted product: its settings are known (`ProductKnown`), and its clauses are right (`mul-encodes`).
-use mathlib.Core.Path.{_≡_}
+-- An accepted product: its settings are known (`ProductKnown`), and its clauses are right (`mul-encodes`, `mul-exact`).
+use mathlib.Core.Path.{_≡_, _∙_, ap₂, sym}
 use mathlib.Core.Bool.{_&&_, false, not}
 use mathlib.Core.List.{List}
 use Prim.Native.Nat.{_<_, ℕ}
 use native.Mathlib.Omega.{arith}
 use lib.Dec.{lit<, ltb}
+use lib.IntN.{_*ℤ_, ℤ}
 use lib.ListN.{length}
 use borrow.Author.Tests.{ltb-true, not-true}
 use Rattle.sat.specs.Clause.{Assignment}
@@ -17,11 +18,11 @@ use Rattle.encoder_env.proofs.Kept.{Kept, in-use, kept}
 use Rattle.encoder_env.proofs.Records.{lits-known}
 use Rattle.encoder_env.proofs.Tests.{both}
 use Rattle.encoder_answer.specs.Adding.{grown}
-use Rattle.encoder_mul.specs.Encoded.{MulEncodes}
-use Rattle.encoder_answer.specs.Encoded.{RuleEncodes, number}
+use Rattle.encoder_mul.specs.Encoded.{MulEncodes, MulExact}
+use Rattle.encoder_answer.specs.Encoded.{RuleEncodes, RuleExact, number}
 use Rattle.encoder_answer.specs.Outcome.{Check, status-of}
 use Rattle.encoder_mul.specs.Products.{mul-checks, mul-outcome, product-encoded, product-reached}
-use Rattle.encoder_answer.proofs.Adding.{RuleAdded, known, rule-encodes}
+use Rattle.encoder_answer.proofs.Adding.{RuleAdded, known, number-same, rule-encodes, rule-exact}
 use Rattle.encoder_answer.proofs.Statuses.{Numbered, passed}
 
 module _ (env : EncoderEnv) (lits ends x y m : ℕ) where
@@ -76,5 +77,17 @@ module _ (env : EncoderEnv) (lits ends : List ℕ) (x y m : ℕ) where
   encoded : RuleEncodes env (mul-outcome env lits ends x y m) Rule
   encoded h = rule-encodes checks env lits ends (product-encoded env x y m) Rule (product-added h .1)
 
+  exact : RuleExact env (mul-outcome env lits ends x y m) Rule
+  exact h =
+      let (p, a) = product-added h in
+      rule-exact checks env lits ends (product-encoded env x y m) Rule a
+      (λ α β g r.
+      let same = number-same env (length lits) (length ends) (a .holds) α β g in
+      ap₂ (λ (i j : ℤ). i *ℤ j) (same x (p .x-known)) (same y (p .y-known)) ∙ r ∙ sym (same m (p .m-known)))
+      h
+
 pub mul-encodes : MulEncodes
 mul-encodes = encoded
+
+pub mul-exact : MulExact
+mul-exact = exact

@@ -1,3 +1,4 @@
 pub mod Products
 pub mod Ready
 pub mod Encoded
+pub mod Accepted

@@ -1,5 +1,5 @@
--- An accepted setting call: what it left (`Added`), that its clauses and its record are right (`setting-encodes`), and that the job stays
--- well formed (`setting-well-formed`).
+-- An accepted setting call: what it left (`Added`), that its clauses and its record are right (`setting-encodes`), that values and codes
+-- convert both ways (`setting-converts`), and that the job stays well formed (`setting-well-formed`).
 use mathlib.Core.Path.{_≡_, _∙_, ap, refl, subst, sym}
 use mathlib.Core.Bool.{Bool, cond, false, true}
 use mathlib.Core.List.{List}
@@ -9,6 +9,9 @@ use lib.Dec.{eqb, ltb}
 use lib.ListN.{length}
 use lib.Seq.{getD-set-other, getD-set-same}
 use borrow.Author.Tests.{eqb-false, eqb-true, le-ltb, lt-ltb, ltb-false, ltb-true}
+use Rattle.arithmetic.proofs.Bits.{shl-power}
+use Rattle.arithmetic.proofs.Offset.{code-value}
+use Rattle.sat.specs.Number.{code-of}
 use Rattle.clause_set.specs.Stores.{add-clauses, stores}
 use Rattle.norm_csp.specs.Domain.{IntVarRepresentation}
 use Rattle.log_encoding.specs.EncodeVarLog.{EncodedVar, encode-var-log}
@@ -16,14 +19,14 @@ use Rattle.log_encoding.specs.EncodesVar.{EncodesVar}
 use Rattle.log_var.specs.Record.{encoding-of, record-of}
 use Rattle.log_var.specs.declared.LogEncoding.{LogEncoding as Encoding}
 use Rattle.log_var.proofs.Bounds.{recorded}
-use Rattle.log_encoding.proofs.EncodeVarLog.{encode-var-log-encodes}
+use Rattle.log_encoding.proofs.EncodeVarLog.{encode-var-log-encodes, value-to-code}
 use Rattle.log_var.proofs.Reading.{encoding-back}
 use Rattle.encoder_env.specs.declared.EncoderEnv.{EncoderEnv}
 use Rattle.encoder_env.specs.WellFormed.{encoding-at, encoding-holds, is-spare, record-holds, well-formed}
 use Rattle.encoder_env.proofs.Kept.{all-at}
 use Rattle.encoder_env.proofs.Records.{all-true, encoding-more, record-fits}
 use Rattle.encoder_var.specs.Settings.{setting-checks, setting-outcome, with-encoding}
-use Rattle.encoder_var.specs.Encoded.{SettingEncodes, added-var}
+use Rattle.encoder_var.specs.Encoded.{Converts, SettingConverts, SettingEncodes, added-var}
 use Rattle.encoder_answer.specs.Outcome.{Check, Outcome}
 use Rattle.encoder_answer.proofs.Adding.{Accepted, clauses-are, known, still-well-formed}
 use Rattle.encoder_var.proofs.Settings.{Admitted, admitted, numbered}
@@ -51,6 +54,15 @@ module _ (env : EncoderEnv) (lits ends : List ℕ) (repr : IntVarRepresentation)
   module _ (a : Added) (long : length (env .encodings) ≡ 32) where
     pub encodes : EncodesVar (env .variables) repr out
     encodes = encode-var-log-encodes (env .variables) repr (a .had .ready .encodable)
+
+    converts : Converts repr out
+    converts =
+        record {
+          to-code = λ α z d.
+              let c = value-to-code (env .variables) repr (a .had .ready .encodable) α z d in
+              (omega (arith, c .0, shl-power (length (out .encoding .lits))), c .1);
+          to-value = λ α h. (encodes .admits α .0 h, code-value (out .encoding .offset) (code-of α (out .encoding .lits)));
+        }
 
     pub new-record : encoding-at job (env .count) ≡ record-of (out .encoding)
     new-record = getD-set-same (env .encodings) (env .count) (record-of (out .encoding)) _ (omega (arith, long, a .had .free))
@@ -105,3 +117,8 @@ pub setting-encodes : SettingEncodes
 setting-encodes env lits ends repr long h =
     let a = added env lits ends repr h in
     subst (EncodesVar (env .variables) repr) (sym (var-is env lits ends repr a long)) (encodes env lits ends repr a long)
+
+pub setting-converts : SettingConverts
+setting-converts env lits ends repr long h =
+    let a = added env lits ends repr h in
+    subst (Converts repr) (sym (var-is env lits ends repr a long)) (converts env lits ends repr a long)

@@ -1,3 +1,4 @@
 pub mod Settings
 pub mod Sizes
 pub mod Encoded
+pub mod Accepted

@@ -3,12 +3,14 @@ use Prim.Native.Nat.{_%_, _+_, _-_, _/_, _<_, _≤_, max, suc, zero, ℕ}
 use borrow.Author.Tests.{le-ltb, ltb-false}
 use lib.ListN.{getD}
 use mathlib.Core.Bool.{Bool, false}
-use mathlib.Core.List.{List, _∷_}
+use mathlib.Core.List.{List, [], _∷_}
+use mathlib.Core.Logic.{_↔_}
 use mathlib.Core.Path.{_∙_, _≡_, refl}
 use native.Mathlib.Nat.{not-suc-le-zero, sub-zero}
 use native.Mathlib.Numerals.{sub-one}
 use native.Mathlib.Omega.{arith}
 use Rattle.log_encoding.specs.AdderSize.{Reached, greatest-height, height, input-shapes, reached, reached-column, reached-past, too-tall}
+use Rattle.log_encoding.specs.Columns.{HeightsWithin}
 
 -- the columns past the last are never above the carry into them
 past-low : (f c : ℕ) → greatest-height (reached-past f c) ≤ c
@@ -21,6 +23,15 @@ pub reached-fits : (r : Reached) (rs : List Reached) → too-tall (r ∷ rs) ≡
 reached-fits r rs h =
     let low = ltb-false 12 (greatest-height (r ∷ rs)) h in
     (omega (arith, low), le-ltb 12 (greatest-height rs) (omega (arith, low)))
+
+-- the test of 13, as the bound on every column reached
+pub heights-within : (rs : List Reached) → (too-tall rs ≡ false) ↔ HeightsWithin rs
+heights-within [] = (λ h. tt, λ h. refl)
+heights-within (r ∷ rs) =
+    let ih = heights-within rs in (
+      λ h. let f = reached-fits r rs h in (f .0, ih .0 (f .1)),
+      λ h. le-ltb 12 (greatest-height (r ∷ rs)) (omega (arith, h .0, ltb-false 12 (greatest-height rs) (ih .1 (h .1)))),
+    )
 
 module _ (counts : List ℕ) where
   -- the greatest height of w columns from the i-th on, with the bits of k and a carry of c literals, and of those past them

@@ -22,3 +22,4 @@ pub mod LinearSize
 pub mod Multiply
 pub mod EncodeMulLog
 pub mod MulSize
+pub mod Columns

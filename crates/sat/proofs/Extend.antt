@@ -9,7 +9,7 @@ use mathlib.Core.Path.{_∙_, _≡_, ap, ap₂, refl, sym}
 use native.Mathlib.Omega.{arith}
 use Rattle.sat.specs.Clause.{Assignment, bit, clause-sat, holds, sat}
 use Rattle.sat.specs.Count.{Monotone, count, lead}
-use Rattle.sat.specs.Encodes.{Agree, Any, ClausesBelow, Encodes, LitsBelow}
+use Rattle.sat.specs.Encodes.{Agree, Any, ClausesBelow, Completed, Encodes, LitsBelow}
 use Rattle.sat.proofs.Clauses.{sat-append, sat-both}
 
 pub agree-sym : (v : ℕ) (α β : Assignment) → Agree v α β → Agree v β α
@@ -126,6 +126,11 @@ means is A =
       complete = λ α p s. A .complete α p (is α .1 s);
       unique = A .unique;
     }
+
+-- what the first v variables decide holds exactly where the clauses can be completed
+pub exactly-when : {v v′ : ℕ} {R : Assignment → Type 0} {cs : List (List ℕ)} → ((α β : Assignment) → Agree v α β → R β → R α)
+    → Encodes v v′ Any R cs → (α : Assignment) → Completed v cs α ↔ R α
+exactly-when same E α = (λ (β, g, h). same α β g (E .sound β tt h), λ r. E .complete α tt r)
 
 -- where nothing is asked and nothing said
 pub then : {v v′ v″ : ℕ} {a b : List (List ℕ)} → Encodes v v′ Any Any a → Encodes v′ v″ Any Any b → Encodes v v″ Any Any (a ++ b)

@@ -18,6 +18,10 @@ abbrev pub ClausesBelow : ℕ → List (List ℕ) → Type 0
 ClausesBelow v [] = Unit
 ClausesBelow v (c ∷ cs) = LitsBelow v c × ClausesBelow v cs
 
+-- some choice of the variables from v on satisfies the clauses
+abbrev pub Completed : ℕ → List (List ℕ) → Assignment → Type 0
+Completed v cs α = (β : Assignment) × Agree v α β × So (sat β cs)
+
 -- The clauses, which tie the variables from v up to v′, say of the first v variables that R holds, where P does: an assignment that
 -- satisfies them has R; if it has R, the variables from v on can be chosen so that the clauses hold, and in one way only.
 pub record Encodes (v v′ : ℕ) (P R : Assignment → Type 0) (cs : List (List ℕ)) : Type 0 where
