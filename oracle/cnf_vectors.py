@@ -4,7 +4,8 @@
   cnf_vectors.py SEED [DIRECTORY]   writes stdin and stdout of DIRECTORY/cnf and of
                                     DIRECTORY/cnf_files (crates if absent)
 
-cnf reads one job file, examples/rev_ceiling.job. The input of cnf_files is a row of job files, each behind
+cnf reads one job file of 8,192 bytes, as long as one may be: examples/rev_ceiling.job, then fields that add nothing, and a
+last one that adds a clause, so that a program that loses a byte prints another text. The input of cnf_files is a row of job files, each behind
 its length in two bytes, high byte first; its output is their prints, one after another. The files
 are those of cnf_chapters.py, then random ones whose print is not long. What was reached is printed.
 """
@@ -22,6 +23,10 @@ from mistakes import told_apart
 from replay_vectors import DIRECTORY, write
 
 KEPT = Path(__file__).resolve().parent.parent / "examples" / "rev_ceiling.job"
+NO_TERMS = bytes([5, 0, 5, 0, 0, 0, 0, 0])  # a sum of no terms, Eq 0
+ONLY_0 = bytes([3, 0, 2, 0, 0])  # a list with the one value 0
+LAST = bytes([2, 0, 4, 0, 0, 0, 2])  # a range 0..2
+LENGTH = 8192
 RANDOM = 200
 LONGEST = 10_000
 REACHABLE = {*range(2, 14), 15, 18}
@@ -44,6 +49,15 @@ def random_files(driver, seed):
             yield "random, " + name, data
 
 
+def longest_file():
+    """The kept sheet, made as long as a job file may be."""
+    sheet = KEPT.read_bytes() + ONLY_0
+    left = LENGTH - len(sheet) - len(LAST)
+    if left % len(NO_TERMS):
+        raise AssertionError("the kept sheet cannot be made 8,192 bytes long by these fields")
+    return sheet + left // len(NO_TERMS) * NO_TERMS + LAST
+
+
 def main():
     parser = argparse.ArgumentParser(description="Input of cnf and cnf_files, and their answers.")
     parser.add_argument("seed", type=int)
@@ -51,7 +65,7 @@ def main():
     add_driver_option(parser)
     options = parser.parse_args()
     driver = Driver(options.driver)
-    kept = KEPT.read_bytes()
+    kept = longest_file()
     write(options.directory / "cnf", kept, jobfile.answer(driver, kept)[0])
     counted, stdin, stdout = Counted(driver), b"", b""
     for name, data in [*written_files(driver), *random_files(driver, options.seed)]:

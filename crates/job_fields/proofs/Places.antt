@@ -7,10 +7,10 @@ use mathlib.Core.List.{List, [], _∷_}
 use lib.Dec.{eqb, leb, ltb}
 use lib.ListN.{drop, drop-of-length-le, getD, length, length-drop, take}
 use lib.Seq.{drop-cons, drop-drop}
-use borrow.Author.Tests.{eqb-true, le-leb, le-ltb, leb-false, leb-true, lt-leb, lt-ltb, ltb-false, ltb-true, ne-eqb}
+use borrow.Author.Tests.{eq-eqb, eqb-true, le-leb, le-ltb, leb-false, leb-true, lt-leb, lt-ltb, ltb-false, ltb-true, ne-eqb}
 use Rattle.job_fields.specs.Numbers.{word-at}
 use Rattle.job_fields.specs.Fields.{Field, broken, field, fields, right-length, right-place}
-use Rattle.job_fields.specs.Places.{field-at}
+use Rattle.job_fields.specs.Places.{field-at, fields-from, number-at}
 use Rattle.job_fields.specs.declared.fields.FieldAt.{FieldAt}
 use Rattle.job_fields.specs.declared.fields.FieldAt.the-variants.{Broken, Contents, End}
 
@@ -59,13 +59,14 @@ pub later-place : (i t : ℕ) → (i ≡ 0 → ⊥) → not (eqb t 1) ≡ right-
 unfolding right-place
 later-place i t h = rw (ne-eqb i 0 h)
 
--- Places and bytes -------------------------------------------------------------------------------------------------------
+-- the number at the end of the input
+pub end-first : (index : ℕ) {p : FieldAt} → p ≡ End → index ≡ 0 → 18 ≡ number-at index p
+end-first index e h = rw (e, eq-eqb index 0 h)
 
--- a field as the code reads it, and those behind it
-abbrev pub fields-from : ℕ → List ℕ → FieldAt → List Field
-fields-from n s End = []
-fields-from n s Broken = broken ∷ []
-fields-from n s (Contents tag begin end) = field tag (take (end - begin) (drop begin s)) ∷ fields n (drop end s)
+pub end-later : (index : ℕ) {p : FieldAt} → p ≡ End → (index ≡ 0 → ⊥) → 0 ≡ number-at index p
+end-later index e h = rw (e, ne-eqb index 0 h)
+
+-- Places and bytes -------------------------------------------------------------------------------------------------------
 
 three : (s : List ℕ) (at : ℕ) → 3 ≤ length s - at → drop at s ≡ getD s at 0 ∷ getD s (at + 1) 0 ∷ getD s (at + 1 + 1) 0 ∷ drop (at + 3) s
 three s at h =

@@ -3,7 +3,7 @@ ghost use mathlib.Core.Path.{_≡_};
 ghost use lib.ListN.{drop, length, take};
 ghost use Prim.Native.Nat.{_-_, _≤_};
 ghost use Rattle.job_fields.specs.Fields.{right-length, right-place};
-ghost use Rattle.job_fields.specs.Places.{field-at};
+ghost use Rattle.job_fields.specs.Places.{field-at, number-at};
 use crate::numbers;
 
 // What stands at a place.
@@ -31,6 +31,22 @@ pub fn field_at(s: &[u8], at: usize) -> FieldAt
         tag: s[at],
         begin: at + 3,
         end: at + 3 + len,
+    }
+}
+
+// The number of what stands at a place, where `index` fields stand before it: 0 where the run goes on or ends well.
+pub fn number_at(place: FieldAt, index: u32) -> u32
+    ensures { λ r. ⌜ r ≡ number-at index place ⌝ }
+{
+    match place {
+        FieldAt::Contents { .. } => 0,
+        FieldAt::End => {
+            if index == 0 {
+                return 18;
+            }
+            0
+        }
+        FieldAt::Broken => 18,
     }
 }
 

@@ -10,10 +10,10 @@ use Rattle.encoder_answer.specs.declared.Answer.{Answer}
 use Rattle.encoder_read.specs.Calls.{opened}
 use Rattle.encoder_answer.specs.Outcome.{Answers}
 use Rattle.job_fields.specs.Fields.{field, fields, fields-of}
-use Rattle.job_fields.specs.Places.{field-at}
+use Rattle.job_fields.specs.Places.{field-at, fields-from, number-at}
 use Rattle.job_fields.specs.declared.fields.FieldAt.{FieldAt}
 use Rattle.job_fields.specs.declared.fields.FieldAt.the-variants.{Broken, Contents, End}
-use Rattle.job_fields.proofs.Places.{Within, fields-at, fields-from}
+use Rattle.job_fields.proofs.Places.{Within, fields-at}
 use Rattle.job_file.specs.Run.{JobRun, ended, field-outcome, run-fields, run-file, state}
 use Rattle.job_file.proofs.Refused.{field-unchanged}
 

@@ -68,27 +68,18 @@ pub fn run(bytes: &[u8], lits: &mut [u32], ends: &mut [u32]) -> JobAnswer
     let mut at: usize = 0;
     let mut index: u32 = 0;
     loop {
-        match fields::field_at(bytes, at) {
-            FieldAt::End => {
-                if index == 0 {
-                    return answered(index, 18, env);
-                }
-                return answered(index, 0, env);
-            }
-            FieldAt::Broken => {
-                return answered(index, 18, env);
-            }
-            FieldAt::Contents { tag, begin, end } => {
-                let s = fields::contents(bytes, begin, end);
-                let a = one_field(index, tag, s, env, lits, ends);
-                if a.status != 0 {
-                    return answered(index, a.status, env);
-                }
-                let next = a.env;
-                env = next;
-                at = end;
-                index += 1;
-            }
+        let place = fields::field_at(bytes, at);
+        let FieldAt::Contents { tag, begin, end } = place else {
+            return answered(index, fields::number_at(place, index), env);
+        };
+        let s = fields::contents(bytes, begin, end);
+        let a = one_field(index, tag, s, env, lits, ends);
+        if a.status != 0 {
+            return answered(index, a.status, env);
         }
+        let next = a.env;
+        env = next;
+        at = end;
+        index += 1;
     }
 }
