@@ -1,8 +1,11 @@
 -- Laws of the loop over the fields: what is left of the run gives the whole.
 use Prim.Native.Nat.{_+_, _-_, _<_, _≤_, ℕ}
 use native.Mathlib.Omega.{arith}
-use mathlib.Core.Path.{_∙_, _≡_, ap, sym}
-use mathlib.Core.List.{List}
+use mathlib.Core.Logic.{⊎-elim}
+use mathlib.Core.Path.{_∙_, _≡_, ap, refl, sym}
+use mathlib.Core.List.{List, [], _∷_}
+use denote.Enum.Declared.{tagOf}
+use types.Run.{OneOf}
 use lib.ListN.{drop, length, take}
 use borrow.Author.Tests.{eq-eqb, le-leb, lt-leb, ne-eqb}
 use Rattle.encoder_env.specs.declared.EncoderEnv.{EncoderEnv}
@@ -13,9 +16,22 @@ use Rattle.job_fields.specs.Fields.{field, fields, fields-of}
 use Rattle.job_fields.specs.Places.{field-at, fields-from, number-at}
 use Rattle.job_fields.specs.declared.fields.FieldAt.{FieldAt}
 use Rattle.job_fields.specs.declared.fields.FieldAt.the-variants.{Broken, Contents, End}
+use Rattle.job_fields.proofs.fields.FieldAt.{the-type}
 use Rattle.job_fields.proofs.Places.{Within, fields-at}
 use Rattle.job_file.specs.Run.{JobRun, ended, field-outcome, run-fields, run-file, state}
 use Rattle.job_file.proofs.Refused.{field-unchanged}
+
+-- no field stands there: the run ends
+abbrev pub Ends : FieldAt → Type 0
+Ends (Contents tag begin end) = ⊥
+Ends End = Unit
+Ends Broken = Unit
+
+-- so it is where the code's match goes on without contents
+pub told : (r : FieldAt) → OneOf (1 ∷ 2 ∷ []) (tagOf the-type r) → Ends r
+told (Contents tag begin end) h = ⊎-elim (λ (e : 0 ≡ 1). omega arith) (λ (e : 0 ≡ 2). omega arith) h
+told End h = tt
+told Broken h = tt
 
 -- from a place on, with enough fields to come
 pub record Going (s : List ℕ) (all : JobRun) (at index : ℕ) (env : EncoderEnv) (lits ends : List ℕ) : Type 0 where
@@ -39,17 +55,14 @@ module _ {s : List ℕ} {all : JobRun} {at index : ℕ} {env : EncoderEnv} {lits
       ∙ ap (run-fields index (state env lits ends)) (sym (fields-at (g .most) s at (g .enough)))
       ∙ g .rest
 
-  pub none-first : r ≡ End → index ≡ 0 → ended index 18 (state env lits ends) ≡ all
-  unfolding run-fields
-  none-first q h = rw (eq-eqb index 0 h) at (rest-at End q)
-
-  pub none-later : r ≡ End → (index ≡ 0 → ⊥) → ended index 0 (state env lits ends) ≡ all
-  unfolding run-fields
-  none-later q h = rw (ne-eqb index 0 h) at (rest-at End q)
-
-  pub field-broken : r ≡ Broken → ended index 18 (state env lits ends) ≡ all
+  pub run-ends : Ends r → ended index (number-at index r) (state env lits ends) ≡ all
   unfolding run-fields field-outcome
-  field-broken q = rest-at Broken q
+  run-ends = go r refl
+    where
+      go : (x : FieldAt) → r ≡ x → Ends x → ended index (number-at index x) (state env lits ends) ≡ all
+      go (Contents tag begin end) q h = absurd h
+      go End q h = rest-at End q
+      go Broken q h = rest-at Broken q
 
   module _ (tag begin end : ℕ) (q : r ≡ Contents tag begin end) (c : List ℕ) (is : c ≡ take (end - begin) (drop begin s))
       (a : Answer) (l e : List ℕ) (h : Answers (field-outcome index (state env lits ends) (field tag c)) a l e) where

@@ -1,18 +1,19 @@
 -- `job_file::run` meets its contract.
-use Prim.Native.Nat.{_-_, _≤_}
+use Prim.Native.Nat.{_-_, _≤_, ℕ}
 use lib.ListN.{length}
 use mathlib.Core.Path.{_∙_, _≡_, ap, refl, sym}
 use native.Mathlib.Omega.{arith}
 use Rattle.job_fields.proofs.Places.{field-within}
-use Rattle.job_file.specs.Run.{job-run, run-file}
+use Rattle.job_file.specs.Run.{ended, job-run, run-file, state}
 use Rattle.job_file.specs.declared.JobAnswer.{JobAnswer}
-use Rattle.job_file.proofs.Running.{Going, field-accepted, field-broken, field-refused, going-start, none-first, none-later, too-long}
+use Rattle.job_file.proofs.Running.{Going, field-accepted, field-refused, going-start, run-ends, told, too-long}
 use borrow.Author.Needs.{needs}
 use Rattle.job_file.proofs.run.Statement.{statement}
 use Rattle.job_file.proofs.run.Tie as tie
 
 abbrev Inv-loop : tie.InvT-loop
-Inv-loop bytes lits₀ ends₀ env₀ at₀ index₀ lits ends env at index = (length lits ≡ length lits₀) × (length ends ≡ length ends₀) × (index ≤ at) × (at ≤ length bytes) × (length bytes ≤ 8192) × Going bytes (run-file bytes lits₀ ends₀) at index env lits ends
+Inv-loop bytes lits₀ ends₀ env₀ at₀ index₀ lits ends env at index =
+    (length lits ≡ length lits₀) × (length ends ≡ length ends₀) × (index ≤ at) × (at ≤ length bytes) × (length bytes ≤ 8192) × Going bytes (run-file bytes lits₀ ends₀) at index env lits ends
 
 abbrev μ-loop : tie.MeasureT-loop
 μ-loop bytes lits₀ ends₀ env₀ at₀ index₀ lits ends env at index = length bytes - at
@@ -36,8 +37,11 @@ loop-holds c =
 field-at-requires : tie.Need-field-at-requires Inv-loop μ-loop
 field-at-requires c κs = search needs
 
-enum-told : tie.Need-enum-told Inv-loop μ-loop
-enum-told c = search needs
+enum-known-place : tie.Need-enum-known-place Inv-loop μ-loop
+enum-known-place c = search needs
+
+number-at-requires : tie.Need-number-at-requires Inv-loop μ-loop
+number-at-requires c κs = search needs
 
 answered-requires-2 : tie.Need-answered-requires-2 Inv-loop μ-loop
 answered-requires-2 c κs = search needs
@@ -50,81 +54,51 @@ same-length-2 c = search needs
 
 returns-2 : tie.Need-returns-2 Inv-loop μ-loop
 returns-2 c =
-    let l = c .before .before .before .before .before .loop in
-    ap (λ (q : JobAnswer). job-run q (l .lits) (l .ends)) (c .answered2 .ensures) ∙ none-first (l .inv .5) (c .before .before .before .before .field-at .ensures) (c .before .before .enum-told .given .1) (c .before .if2 .taken)
-
-answered-requires-3 : tie.Need-answered-requires-3 Inv-loop μ-loop
-answered-requires-3 c κs = search needs
-
-same-length-3 : tie.Need-same-length-3 Inv-loop μ-loop
-same-length-3 c = search needs
-
-same-length-4 : tie.Need-same-length-4 Inv-loop μ-loop
-same-length-4 c = search needs
-
-returns-3 : tie.Need-returns-3 Inv-loop μ-loop
-returns-3 c =
-    let l = c .before .before .before .before .before .loop in
-    ap (λ (q : JobAnswer). job-run q (l .lits) (l .ends)) (c .answered3 .ensures) ∙ none-later (l .inv .5) (c .before .before .before .before .field-at .ensures) (c .before .before .enum-told .given .1) (c .before .if2 .left)
-
-enum-told-2 : tie.Need-enum-told-2 Inv-loop μ-loop
-enum-told-2 c = search needs
-
-answered-requires-4 : tie.Need-answered-requires-4 Inv-loop μ-loop
-answered-requires-4 c κs = search needs
-
-same-length-5 : tie.Need-same-length-5 Inv-loop μ-loop
-same-length-5 c = search needs
-
-same-length-6 : tie.Need-same-length-6 Inv-loop μ-loop
-same-length-6 c = search needs
-
-returns-4 : tie.Need-returns-4 Inv-loop μ-loop
-returns-4 c =
     let l = c .before .before .before .before .loop in
-    ap (λ (q : JobAnswer). job-run q (l .lits) (l .ends)) (c .answered4 .ensures) ∙ field-broken (l .inv .5) (c .before .before .before .field-at .ensures) (c .before .enum-told2 .given .1)
-
-enum-known-tag : tie.Need-enum-known-tag Inv-loop μ-loop
-enum-known-tag c = search needs
+    let f = c .before .before .before .field-at in
+    ap (λ (q : JobAnswer). job-run q (l .lits) (l .ends)) (c .answered2 .ensures)
+    ∙ ap (λ (n : ℕ). ended (l .index) n (state (l .env) (l .lits) (l .ends))) (c .before .number-at .ensures)
+    ∙ run-ends (l .inv .5) (f .ensures) (told (f .result) (c .before .before .match .keys2))
 
 contents-requires : tie.Need-contents-requires Inv-loop μ-loop
 contents-requires c κs =
-    let g = c .before .tag .given in
+    let g = c .before .place .given in
     let w = field-within (c .before .before .before .before .before .before .before .before .before .before .args .bytes .now) (c .before .before .before .before .loop .at) (g .0 .0) (g .0 .1 .0) (g .0 .1 .1 .0) (sym (c .before .before .before .field-at .ensures) ∙ g .1) in
     (w .from, w .inside)
 
 one-field-requires : tie.Need-one-field-requires Inv-loop μ-loop
 one-field-requires c κs = search needs
 
-answered-requires-5 : tie.Need-answered-requires-5 Inv-loop μ-loop
-answered-requires-5 c κs = search needs
+answered-requires-3 : tie.Need-answered-requires-3 Inv-loop μ-loop
+answered-requires-3 c κs = search needs
 
-same-length-7 : tie.Need-same-length-7 Inv-loop μ-loop
-same-length-7 c = omega (arith, c .before .before .before .before .before .before .before .before .before .before .before .before .before .before .before .loop .inv .0, c .before .before .before .before .before .before .before .one-field .kept)
+same-length-3 : tie.Need-same-length-3 Inv-loop μ-loop
+same-length-3 c = omega (arith, c .before .before .before .before .before .before .before .before .before .before .before .before .before .before .before .loop .inv .0, c .before .before .before .before .before .before .before .one-field .kept)
 
-same-length-8 : tie.Need-same-length-8 Inv-loop μ-loop
-same-length-8 c = omega (arith, c .before .before .before .before .before .before .before .before .before .before .before .before .before .before .before .loop .inv .1, c .before .before .before .before .before .before .before .one-field .kept)
+same-length-4 : tie.Need-same-length-4 Inv-loop μ-loop
+same-length-4 c = omega (arith, c .before .before .before .before .before .before .before .before .before .before .before .before .before .before .before .loop .inv .1, c .before .before .before .before .before .before .before .one-field .kept)
 
-returns-5 : tie.Need-returns-5 Inv-loop μ-loop
-returns-5 c =
-    let g = c .before .before .before .before .before .before .before .before .before .before .before .before .tag .given in
+returns-3 : tie.Need-returns-3 Inv-loop μ-loop
+returns-3 c =
+    let g = c .before .before .before .before .before .before .before .before .before .before .before .before .place .given in
     let l = c .before .before .before .before .before .before .before .before .before .before .before .before .before .before .before .loop in
     let f = c .before .before .before .before .before .before .before .one-field in
-    ap (λ (q : JobAnswer). job-run q (f .last .1 .1 .1 .1 .0) (f .last .1 .1 .1 .1 .1 .0)) (c .answered5 .ensures) ∙ field-refused (l .inv .5) (c .before .before .before .before .before .before .before .before .before .before .before .before .before .before .field-at .ensures) (g .0 .0) (g .0 .1 .0) (g .0 .1 .1 .0) (g .1) _ (c .before .before .before .before .before .before .before .before .before .before .contents .ensures) _ _ _ (f .ensures) (c .before .if3 .taken)
+    ap (λ (q : JobAnswer). job-run q (f .last .1 .1 .1 .1 .0) (f .last .1 .1 .1 .1 .1 .0)) (c .answered3 .ensures)
+    ∙ field-refused (l .inv .5) (c .before .before .before .before .before .before .before .before .before .before .before .before .before .before .field-at .ensures) (g .0 .0) (g .0 .1 .0) (g .0 .1 .1 .0) (g .1) _ (c .before .before .before .before .before .before .before .before .before .before .contents .ensures) _ _ _ (f .ensures) (c .before .if2 .taken)
 
 add-index : tie.Need-add-index Inv-loop μ-loop
 add-index c = search needs
 
 loop-less : tie.Need-loop-less Inv-loop μ-loop
 loop-less c =
-    let g = c .before .before .before .before .before .before .before .before .before .before .before .before .tag .given in
+    let g = c .before .before .before .before .before .before .before .before .before .before .before .before .place .given in
     let l = c .before .before .before .before .before .before .before .before .before .before .before .before .before .before .before .loop in
     let w = field-within (c .before .before .before .before .before .before .before .before .before .before .before .before .before .before .before .before .before .before .before .before .before .args .bytes .now) (l .at) (g .0 .0) (g .0 .1 .0) (g .0 .1 .1 .0) (sym (c .before .before .before .before .before .before .before .before .before .before .before .before .before .before .field-at .ensures) ∙ g .1) in
     omega (arith, w .head, w .from, w .inside)
 
 loop-again : tie.Need-loop-again Inv-loop μ-loop
 loop-again c =
-    let g = c .before .before .before .before .before .before .before .before .before .before .before .before .tag .given in
+    let g = c .before .before .before .before .before .before .before .before .before .before .before .before .place .given in
     let l = c .before .before .before .before .before .before .before .before .before .before .before .before .before .before .before .loop in
     let f = c .before .before .before .before .before .before .before .one-field in
     let w = field-within (c .before .before .before .before .before .before .before .before .before .before .before .before .before .before .before .before .before .before .before .before .before .args .bytes .now) (l .at) (g .0 .0) (g .0 .1 .0) (g .0 .1 .1 .0) (sym (c .before .before .before .before .before .before .before .before .before .before .before .before .before .before .field-at .ensures) ∙ g .1) in (
@@ -133,7 +107,7 @@ loop-again c =
       omega (arith, l .inv .2, w .head, w .from),
       w .inside,
       l .inv .4,
-      field-accepted (l .inv .5) (c .before .before .before .before .before .before .before .before .before .before .before .before .before .before .field-at .ensures) (g .0 .0) (g .0 .1 .0) (g .0 .1 .1 .0) (g .1) _ (c .before .before .before .before .before .before .before .before .before .before .contents .ensures) _ _ _ (f .ensures) (c .before .if3 .left) w,
+      field-accepted (l .inv .5) (c .before .before .before .before .before .before .before .before .before .before .before .before .before .before .field-at .ensures) (g .0 .0) (g .0 .1 .0) (g .0 .1 .1 .0) (g .1) _ (c .before .before .before .before .before .before .before .before .before .before .contents .ensures) _ _ _ (f .ensures) (c .before .if2 .left) w,
     )
 
 pub run-spec : {M : Type 1} → statement M
@@ -147,27 +121,18 @@ run-spec =
     returns
     loop-holds
     field-at-requires
-    enum-told
+    enum-known-place
+    number-at-requires
     answered-requires-2
     same-length
     same-length-2
     returns-2
+    contents-requires
+    one-field-requires
     answered-requires-3
     same-length-3
     same-length-4
     returns-3
-    enum-told-2
-    answered-requires-4
-    same-length-5
-    same-length-6
-    returns-4
-    enum-known-tag
-    contents-requires
-    one-field-requires
-    answered-requires-5
-    same-length-7
-    same-length-8
-    returns-5
     add-index
     loop-less
     loop-again)
