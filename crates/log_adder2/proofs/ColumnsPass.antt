@@ -22,18 +22,19 @@ use Rattle.sat.specs.Clause.{Clauses}
 use Rattle.clause_set.specs.Stores.{add-clauses, after}
 use Rattle.clause_set.proofs.Adding.{add-append}
 use Rattle.sat.specs.Fresh.{fresh}
+use Rattle.sat.proofs.Fresh.{length-fresh}
 use Rattle.log_adder.specs.ColumnInfo.{range-lits}
 use Rattle.log_encoding.specs.Adder2.{Adder2Output, NewCarry, eq-column, ordering, returned-set}
 use Rattle.log_adder.specs.AdderState.{own-at}
 use Rattle.log_adder2.specs.EqState.{Carries, EqFits, EqInBounds, Wrote, carries, carries-from, carries-then, carry-of, columns-clauses, eq-carry-count, eq-output, is-dead, next-state, no-vars, target-bit}
 use Rattle.log_adder2.proofs.EqHeights.{column-fits, fits-step, tall-from}
 use Rattle.log_adder2.proofs.OrderingPass.{start-state}
-use Rattle.log_adder2.proofs.Passes.{carries-dead, carries-step, carry-in, passes-are}
+use Rattle.log_adder2.proofs.Passes.{carries-dead, carries-end, carries-step, carry-in, passes-are}
 
 -- Where there is no dead end ------------------------------------------------------------------------------------------
 
 module _ (counts : List ℕ) where
-  pub target-fits : (w i x y : ℕ) (p : VarRange) (v : ℕ) → 0 < w → is-dead (carries-from w i counts x y (carry-in p v) .last) ≡ false → (x + y) % 2 ≤ getD counts i 0 + p .count
+  target-fits : (w i x y : ℕ) (p : VarRange) (v : ℕ) → 0 < w → is-dead (carries-from w i counts x y (carry-in p v) .last) ≡ false → (x + y) % 2 ≤ getD counts i 0 + p .count
   target-fits w i x y p v z h = go (leb ((x + y) % 2) (getD counts i 0 + p .count)) refl where
     go : (t : Bool) → leb ((x + y) % 2) (getD counts i 0 + p .count) ≡ t → (x + y) % 2 ≤ getD counts i 0 + p .count
     go true e = leb-true ((x + y) % 2) (getD counts i 0 + p .count) e
@@ -41,6 +42,31 @@ module _ (counts : List ℕ) where
         let d = ap (λ (s : Carries). is-dead (s .last)) (carries-dead counts w i x y p v z (leb-false ((x + y) % 2) (getD counts i 0 + p .count) e)) in
         let z : _≡_ {A = ℕ} 0 1 = cc in
         absurd (omega arith)
+
+-- The answered carry --------------------------------------------------------------------------------------------------
+
+-- consecutive variables as the first pass answers them
+abbrev pub answer : VarRange → Option NewCarry
+answer p = carry-of (Carry (p .first) (p .count))
+
+abbrev lits-of : Option NewCarry → List ℕ
+lits-of none = []
+lits-of (some p) = p .lits
+
+abbrev vars-of : Option NewCarry → ℕ
+vars-of none = 0
+vars-of (some p) = p .vars
+
+-- an answer that is the carry q has its literals and its count, and the next variable is v
+module _ (p q : VarRange) (v : ℕ) (h : answer p ≡ some (carry-in q v)) where
+  answer-lits : range-lits p ≡ range-lits q
+  answer-lits = ap lits-of h
+
+  pub answer-count : p .count ≡ q .count
+  answer-count = sym (length-fresh (p .count) (p .first .0)) ∙ ap length answer-lits ∙ length-fresh (q .count) (q .first .0)
+
+  pub answer-vars : p .first .0 + p .count ≡ v
+  answer-vars = ap vars-of h
 
 -- The invariant ------------------------------------------------------------------------------------------------------
 
@@ -56,7 +82,7 @@ module _ (cols : List (List Lit)) (counts : List ℕ) where
   made-end zero i x y p v h = refl
   made-end (suc w) i x y p v h = absurd (not-suc-le-zero h)
 
-  module _ (last : ℕ) where
+  module _ (last : ℕ) (carry : VarRange) where
     abbrev coming : EqState → ℕ → Clauses
     coming s i = columns-clauses (last - i) i cols counts (s .x) (s .y) (s .carry) (s .vars)
 
@@ -66,12 +92,20 @@ module _ (cols : List (List Lit)) (counts : List ℕ) where
       pub lits-long : length d ≡ length d₀
       pub ends-long : length e ≡ length e₀
       pub fits : tall-from counts (suc (last - i)) i (s .x) (s .y) (s .carry .count) ≡ false
-      pub live : is-dead (carries-from (last - i) i counts (s .x) (s .y) (carry-in (s .carry) (s .vars)) .last) ≡ false
+      pub answered : answer carry ≡ carries-from (last - i) i counts (s .x) (s .y) (carry-in (s .carry) (s .vars)) .last
       pub same : add-clauses 0 (columns-clauses last 0 cols counts (s₀ .x) (s₀ .y) (s₀ .carry) (s₀ .vars)) (after d₀ e₀ (s₀ .used)) ≡ add-clauses 0 (coming s i) (after d e (s .used))
 
     module _ {d₀ e₀ : List ℕ} {s₀ : EqState} {d e : List ℕ} {s : EqState} {i : ℕ} (m : ColumnsLeft d₀ e₀ s₀ d e s i) where
       pub columns-high : getD counts i 0 + s .carry .count ≤ 12
       columns-high = column-fits counts (suc (last - i)) i (s .x) (s .y) (s .carry .count) (omega arith) (m .fits)
+
+      -- no dead end lies ahead
+      pub columns-fit : i < last → target-bit s ≤ getD counts i 0 + s .carry .count
+      columns-fit h = target-fits counts (last - i) i (s .x) (s .y) (s .carry) (s .vars) (omega arith) (sym (ap is-dead (m .answered)))
+
+      -- into the last column the answered carry is that of the state
+      pub last-carry : last ≤ i → answer carry ≡ some (carry-in (s .carry) (s .vars))
+      last-carry h = m .answered ∙ ap (λ (x : Carries). x .last) (carries-end counts (last - i) i (s .x) (s .y) (s .carry) (s .vars) (omega arith))
 
       turn-at : i < last → (d′ e′ : List ℕ) (u : Counts) → length d′ ≡ length d → length e′ ≡ length e
           → Wrote d e (s .used) (eq-column (own-at cols counts i) (range-lits (s .carry)) 0 (fresh (eq-carry-count (getD counts i 0) s) (s .vars)) (target-bit s)) d′ e′ u
@@ -82,7 +116,7 @@ module _ (cols : List (List Lit)) (counts : List ℕ) where
           let j : last - i - 1 ≡ last - (i + 1) = omega arith in
           let next : suc (last - i) - 1 ≡ suc (last - (i + 1)) = omega arith in
           let hi = columns-high in
-          let od = target-fits counts (last - i) i (s .x) (s .y) (s .carry) (s .vars) (omega arith) (m .live) in
+          let od = columns-fit h in
           let z = m .level in
           let r : EqState = next-state (getD counts i 0) s u in
           let t : coming s i ≡ cs ++ coming r (i + 1) =
@@ -105,7 +139,7 @@ module _ (cols : List (List Lit)) (counts : List ℕ) where
             ends-long = en ∙ m .ends-long;
             fits = (λ k. tall-from counts (sym next k) (i + 1) (r .x) (r .y) (r .carry .count))
                 ∙ fits-step counts (suc (last - i)) i (s .x) (s .y) (s .carry .count) (omega arith) od (m .fits);
-            live = sym (ap (λ (x : Carries). is-dead (x .last)) wk) ∙ m .live;
+            answered = m .answered ∙ ap (λ (x : Carries). x .last) wk;
             same = m .same ∙ ap (λ (x : Clauses). add-clauses 0 x (after d e (s .used))) t ∙ add-append 0 cs (coming r (i + 1)) (after d e (s .used)) ∙ ap (add-clauses 0 (coming r (i + 1))) (sym (w .stores));
           }
 
@@ -116,21 +150,23 @@ module _ (cols : List (List Lit)) (counts : List ℕ) where
       columns-turn h d′ e′ r lo en w = rw (w .0) (turn-at h d′ e′ (r .used) lo en (w .1))
 
       pub columns-end : last ≤ i → (d′ e′ : List ℕ) (u : Counts)
-          → Wrote d e (s .used) (eq-column (own-at cols counts i) (range-lits (s .carry)) (s .x) [] (s .y)) d′ e′ u
+          → Wrote d e (s .used) (eq-column (own-at cols counts i) (range-lits carry) (s .x) [] (s .y)) d′ e′ u
           → after d′ e′ u ≡ add-clauses 0 (columns-clauses last 0 cols counts (s₀ .x) (s₀ .y) (s₀ .carry) (s₀ .vars)) (after d₀ e₀ (s₀ .used))
       columns-end h d′ e′ u w =
-          w .stores ∙ sym (m .same ∙ ap (λ (x : Clauses). add-clauses 0 x (after d e (s .used))) (made-end (last - i) i (s .x) (s .y) (s .carry) (s .vars) (omega arith)))
+          w .stores
+          ∙ ap (λ (ls : List ℕ). add-clauses 0 (eq-column (own-at cols counts i) ls (s .x) [] (s .y)) (after d e (s .used))) (answer-lits carry (s .carry) (s .vars) (last-carry h))
+          ∙ sym (m .same ∙ ap (λ (x : Clauses). add-clauses 0 x (after d e (s .used))) (made-end (last - i) i (s .x) (s .y) (s .carry) (s .vars) (omega arith)))
 
-  pub columns-start : (d e : List ℕ) (g : EqInput) (a : Counts) → tall-from counts (suc (g .width - 1)) 0 (g .x) (g .y) 0 ≡ false → is-dead (carries counts g .last) ≡ false
-      → EqInBounds (a .lits) (a .clauses) 0 (start-state g a 0) → ColumnsLeft (g .width - 1) d e (start-state g a 0) d e (start-state g a 0) 0
-  columns-start d e g a f l z =
+  pub columns-start : (d e : List ℕ) (g : EqInput) (carry : VarRange) (a : Counts) → tall-from counts (suc (g .width - 1)) 0 (g .x) (g .y) 0 ≡ false → answer carry ≡ carries counts g .last
+      → EqInBounds (a .lits) (a .clauses) 0 (start-state g a 0) → ColumnsLeft (g .width - 1) carry d e (start-state g a 0) d e (start-state g a 0) 0
+  columns-start d e g carry a f l z =
       record {
         within = omega arith;
         level = record { x = z .x; y = z .y; vars = z .vars; carry = z .carry; few = z .few; lits = omega arith; clauses = omega arith };
         lits-long = refl;
         ends-long = refl;
         fits = rw (sub-zero (g .width - 1)) f;
-        live = rw (sub-zero (g .width - 1)) l;
+        answered = rw (sub-zero (g .width - 1)) l;
         same = rw (sub-zero (g .width - 1));
       }
 
@@ -151,8 +187,8 @@ module _ (cols : List (List Lit)) (counts : List ℕ) (g : EqInput) (fit : EqFit
   returned-dead e = sym (returned ∙ ap (λ (q : Column). returned-set (cond (is-dead (carry-of q)) none (some columns·))) e)
 
   -- else the columns' clauses
-  pub returned-columns : (first : Var) (n : ℕ) → c ≡ Carry first n → (is-dead (carries counts g .last) ≡ false) × (columns· ≡ returned-set (eq-output cols counts g .returned))
+  pub returned-columns : (first : Var) (n : ℕ) → c ≡ Carry first n → (carry-of (Carry first n) ≡ carries counts g .last) × (columns· ≡ returned-set (eq-output cols counts g .returned))
   returned-columns first n e = (
-    ap is-dead (sym k) ∙ ap (λ (q : Column). is-dead (carry-of q)) e,
+    ap carry-of (sym e) ∙ k,
     sym (returned ∙ ap (λ (q : Column). returned-set (cond (is-dead (carry-of q)) none (some columns·))) e),
   )

@@ -146,6 +146,10 @@ abbrev pub next-state : ℕ → EqState → Counts → EqState
 next-state h s u =
     record { x = (s .x + 1) / 2; y = s .y / 2; vars = s .vars + eq-carry-count h s; carry = record { first = record { 0 = s .vars }; count = eq-carry-count h s }; used = u }
 
+-- the state with another carry
+abbrev pub with-carry : VarRange → EqState → EqState
+with-carry p s = record { x = s .x; y = s .y; vars = s .vars; carry = p; used = s .used }
+
 -- the clauses cs are added, at most as many as a column has
 pub record Wrote (d e : List ℕ) (a : Counts) (cs : Clauses) (d′ e′ : List ℕ) (r : Counts) : Type 0 where
   pub stores : after d′ e′ r ≡ add-clauses 0 cs (after d e a)

@@ -11,7 +11,7 @@ ghost use Rattle.log_adder.specs.AdderState.{CountsLow};
 ghost use Rattle.log_encoding.specs.Adder2.{column-answer, eq-column, ordering, returned-set};
 ghost use Rattle.log_adder.specs.ColumnInfo.{ColumnSized, range-lits};
 ghost use Rattle.log_encoding.specs.AdderSize.{eq-reached, greatest-height, too-tall};
-ghost use Rattle.log_adder2.specs.EqState.{CarriesOrdered, EqAdded, EqColumnReady, EqFits, Wrote, carries, carry-of, columns-clauses, eq-carry-count, eq-column-clauses, eq-output, is-dead, next-state, no-vars, target-bit};
+ghost use Rattle.log_adder2.specs.EqState.{CarriesOrdered, EqAdded, EqColumnReady, EqFits, Wrote, carries, carry-of, columns-clauses, eq-carry-count, eq-column-clauses, eq-output, next-state, no-vars, target-bit, with-carry};
 ghost use Rattle.log_adder2.specs.declared.Column.the-variants.{Carry, Dead};
 use clause_set::Clause;
 use clause_set::Counts;
@@ -292,18 +292,18 @@ fn add_next_column(
     }
 }
 
-// The last column.
+// The last column, with the carry into it.
 fn add_last_column(
     lits: &mut [u32],
     ends: &mut [u32],
     own: [Lit; 12],
     height: u32,
+    carry: VarRange,
     s: EqState,
 ) -> Counts
-    requires { ⌜ EqColumnReady own height s ⌝ }
-    ensures { λ r. ⌜ Wrote (now (lits .entry)) (now (ends .entry)) (s .used) (eq-column (first-lits own height) (range-lits (s .carry)) (s .x) [] (s .y)) (now (lits .exit)) (now (ends .exit)) r ⌝ }
+    requires { ⌜ EqColumnReady own height (with-carry carry s) ⌝ }
+    ensures { λ r. ⌜ Wrote (now (lits .entry)) (now (ends .entry)) (s .used) (eq-column (first-lits own height) (range-lits carry) (s .x) [] (s .y)) (now (lits .exit)) (now (ends .exit)) r ⌝ }
 {
-    let carry = s.carry;
     let info = ColumnInfo {
         own,
         height,
@@ -318,18 +318,19 @@ fn add_last_column(
     add_eq_column(lits, ends, info, s.x, s.y, s.used)
 }
 
-// The columns' clauses, where no column is a dead end.
+// The columns' clauses, where no column is a dead end; `carry` is the carry into the last column, as the first pass answered it.
 fn add_eq_columns(
     lits: &mut [u32],
     ends: &mut [u32],
     cols: [[Lit; 12]; 32],
     counts: [u32; 32],
     g: EqInput,
+    carry: VarRange,
     at: Counts,
 ) -> Counts
     requires { ⌜ EqFits cols counts g ⌝ }
     requires { ⌜ too-tall (eq-reached (take (g .width) counts) (g .x) (g .y) 0) ≡ false ⌝ }
-    requires { ⌜ is-dead (carries counts g .last) ≡ false ⌝ }
+    requires { ⌜ carry-of (Carry (carry .first) (carry .count)) ≡ carries counts g .last ⌝ }
     requires { ⌜ (at .lits ≤ 1073742136) × (at .clauses ≤ 1073741981) ⌝ }
     ensures { λ r. ⌜ after (now (lits .exit)) (now (ends .exit)) r ≡ add-clauses 0 (columns-clauses (g .width - 1) 0 cols counts (g .x) (g .y) no-vars (g .vars)) (after (now (lits .entry)) (now (ends .entry)) at) ⌝ }
 {
@@ -351,7 +352,7 @@ fn add_eq_columns(
         i += 1;
     }
     let own = cols[last];
-    add_last_column(lits, ends, own, counts[last], s)
+    add_last_column(lits, ends, own, counts[last], carry, s)
 }
 
 // The second pass: the returned set, which is the columns' clauses, or the empty clause of a dead end.
@@ -370,10 +371,18 @@ pub fn push_returned_set(
     requires { ⌜ (at .lits ≤ 1073742136) × (at .clauses ≤ 1073741981) ⌝ }
     ensures { λ r. ⌜ after (now (lits .exit)) (now (ends .exit)) r ≡ add-clauses 0 (returned-set (eq-output cols counts g .returned)) (after (now (lits .entry)) (now (ends .entry)) at) ⌝ }
 {
-    let Column::Carry(_, _) = carry else {
+    let Column::Carry(first, n) = carry else {
         return clause_set::push(lits, ends, Clause::empty(), 0, at);
     };
-    add_eq_columns(lits, ends, cols, counts, g, at)
+    add_eq_columns(
+        lits,
+        ends,
+        cols,
+        counts,
+        g,
+        VarRange { first, count: n },
+        at,
+    )
 }
 
 // The adder of Eq: all its clauses, the ordering clauses first; a dead end writes the empty clause in place of the columns'.

@@ -6,14 +6,14 @@ use lib.ListN.{length}
 use borrow.Author.Needs.{needs}
 use Rattle.log_adder2.proofs.add_eq_columns.Statement.{statement}
 use Rattle.log_adder2.proofs.add_eq_columns.Tie as tie
-use Rattle.log_adder2.proofs.ColumnsPass.{ColumnsLeft, columns-end, columns-high, columns-start, columns-turn, target-fits}
+use Rattle.log_adder2.proofs.ColumnsPass.{ColumnsLeft, answer-count, answer-vars, columns-end, columns-fit, columns-high, columns-start, columns-turn, last-carry}
 use Rattle.log_adder2.proofs.EqHeights.{all-fit}
 
 abbrev Inv-loop : tie.InvT-loop
-Inv-loop lits₀ ends₀ cols counts last s₀ i₀ lits ends s i = ColumnsLeft cols counts last lits₀ ends₀ s₀ lits ends s i
+Inv-loop lits₀ ends₀ carry cols counts last s₀ i₀ lits ends s i = ColumnsLeft cols counts last carry lits₀ ends₀ s₀ lits ends s i
 
 abbrev μ-loop : tie.MeasureT-loop
-μ-loop lits₀ ends₀ cols counts last s₀ i₀ lits ends s i = last - i
+μ-loop lits₀ ends₀ carry cols counts last s₀ i₀ lits ends s i = last - i
 
 counts-long : (c : tie.Start Inv-loop μ-loop) → length (c .args .t4) ≡ 32
 counts-long c = c .good .1 .1 .1 .0 .1 .0 .1
@@ -24,7 +24,7 @@ sub-last c = let s = c .before .before .before in omega (arith, s .pre .0 .some)
 loop-holds : tie.Need-loop-holds Inv-loop μ-loop
 loop-holds c =
     let s = c .before .before .before in
-    columns-start (s .args .t3) (s .args .t4) (s .args .lits .now) (s .args .ends .now) (s .args .g) (s .args .at)
+    columns-start (s .args .t3) (s .args .t4) (s .args .lits .now) (s .args .ends .now) (s .args .g) (s .args .carry) (s .args .at)
     (all-fit (s .args .t4) (s .args .g .width) (s .args .g .x) (s .args .g .y) (s .pre .0 .some) (omega (arith, counts-long s, s .pre .0 .width)) (s .pre .1 .0))
     (s .pre .1 .1 .0)
     (record { x = s .pre .0 .x; y = s .pre .0 .y; vars = omega (arith, s .pre .0 .vars); carry = omega arith; few = omega arith; lits = omega arith; clauses = omega arith })
@@ -47,7 +47,7 @@ add-next-column-requires c κs =
     let l = c .before .before .before .before .loop in
     let h = c .before .before .before .loop-test .taken in (
       record {
-        high = columns-high _ _ _ (l .inv);
+        high = columns-high _ _ _ _ (l .inv);
         x = l .inv .level .x;
         y = l .inv .level .y;
         vars = omega (arith, l .inv .level, l .inv .within, s .pre .0 .width);
@@ -56,7 +56,7 @@ add-next-column-requires c κs =
         lits = omega (arith, l .inv .level .lits, l .inv .within, s .pre .0 .width, s .pre .1 .1 .1);
         clauses = omega (arith, l .inv .level .clauses, l .inv .within, s .pre .0 .width, s .pre .1 .1 .1);
       },
-      target-fits (s .args .t4) (s .args .g .width - 1 - l .i) (l .i) (l .s .x) (l .s .y) (l .s .carry) (l .s .vars) (omega arith) (l .inv .live),
+      columns-fit _ _ _ _ (l .inv) h,
     )
 
 add-i : tie.Need-add-i Inv-loop μ-loop
@@ -70,7 +70,7 @@ loop-again c =
     let s = c .before .before .before .before .before .before .before .before .before .before .before .before .before in
     let l = c .before .before .before .before .before .before .before .before .before .loop in
     let w = c .before .before .before .before .add-next-column in
-    columns-turn (s .args .t3) (s .args .t4) (s .args .g .width - 1) (l .inv) (c .before .before .before .before .before .before .before .before .loop-test .taken) _ _ (w .result) (w .kept .0) (w .kept .1 .0) (w .ensures)
+    columns-turn (s .args .t3) (s .args .t4) (s .args .g .width - 1) (s .args .carry) (l .inv) (c .before .before .before .before .before .before .before .before .loop-test .taken) _ _ (w .result) (w .kept .0) (w .kept .1 .0) (w .ensures)
 
 mul-own-2 : tie.Need-mul-own-2 Inv-loop μ-loop
 mul-own-2 c = search needs
@@ -89,13 +89,16 @@ add-last-column-requires c κs =
     let s = c .before .before .before .before .before .before .before .before in
     let l = c .before .before .before .before .loop in
     let e : l .i ≡ s .args .g .width - 1 = omega (arith, l .inv .within, c .before .before .before .loop-test) in
+    let k = last-carry (s .args .t3) (s .args .t4) (s .args .g .width - 1) (s .args .carry) (l .inv) (omega arith) in
+    let n = answer-count (s .args .carry) (l .s .carry) (l .s .vars) k in
+    let v = answer-vars (s .args .carry) (l .s .carry) (l .s .vars) k in
     rw (← e)
     (record {
-      high = columns-high _ _ _ (l .inv);
+      high = omega (arith, n, columns-high _ _ _ _ (l .inv));
       x = l .inv .level .x;
       y = l .inv .level .y;
       vars = omega (arith, l .inv .level, l .inv .within, s .pre .0 .width);
-      first = omega (arith, l .inv .level, l .inv .within, s .pre .0 .width);
+      first = omega (arith, v, l .inv .level, l .inv .within, s .pre .0 .width);
       own = s .pre .0 .own (l .i);
       lits = omega (arith, l .inv .level .lits, l .inv .within, s .pre .0 .width, s .pre .1 .1 .1);
       clauses = omega (arith, l .inv .level .clauses, l .inv .within, s .pre .0 .width, s .pre .1 .1 .1);
@@ -113,7 +116,7 @@ returns c =
     let l = c .before .before .before .before .before .before .before .before .before .loop in
     let w = c .before .before .before .before .add-last-column in
     let e : l .i ≡ s .args .g .width - 1 = omega (arith, l .inv .within, c .before .before .before .before .before .before .before .before .loop-test) in
-    columns-end (s .args .t3) (s .args .t4) (s .args .g .width - 1) (l .inv) (c .before .before .before .before .before .before .before .before .loop-test .left) _ _ (w .result) (rw e (w .ensures))
+    columns-end (s .args .t3) (s .args .t4) (s .args .g .width - 1) (s .args .carry) (l .inv) (c .before .before .before .before .before .before .before .before .loop-test .left) _ _ (w .result) (rw e (w .ensures))
 
 pub add-eq-columns-spec : {M : Type 1} → statement M
 add-eq-columns-spec =

@@ -7,7 +7,7 @@ use Rattle.log_adder2.proofs.add_last_column.Tie as tie
 
 add-eq-column-requires : tie.Need-add-eq-column-requires
 add-eq-column-requires c κs =
-    let s = c .before .before .before .before .before in
+    let s = c .before .before .before .before in
     let p = s .pre in
     (record { high = p .high; next = lit≤ tt; bit = lit≤ tt; first = omega (arith, p .first); second = lit< tt; result = lit< tt; own = p .own }, omega (arith, p .lits, p .clauses))
 
