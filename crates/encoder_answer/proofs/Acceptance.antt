@@ -10,7 +10,7 @@ use Rattle.sat.specs.Clause.{Clauses}
 use Rattle.sat.specs.Size.{entries}
 use Rattle.encoder_env.specs.declared.EncoderEnv.{EncoderEnv}
 use Rattle.encoder_env.proofs.Bounds.{and-is, leb-is}
-use Rattle.encoder_answer.specs.Accepted.{Fits}
+use Rattle.encoder_answer.specs.Accepted.{HasSpace}
 use Rattle.encoder_answer.specs.Adding.{added, adding, adding-status, space-for}
 use Rattle.encoder_answer.specs.Outcome.{Check, Outcome, settled, status-of}
 use Rattle.encoder_answer.proofs.Statuses.{Numbered, both-lists, passed, settled-accepted, settled-known, then-rest}
@@ -34,7 +34,7 @@ settled-is status env lits ends ok z =
 
 -- A call that adds: its own checks, then those of space --------------------------------------------------------------
 
-fits-is : (env : EncoderEnv) (lits ends vars : ℕ) (clauses : Clauses) → (status-of (space-for env lits ends vars clauses) ≡ 0) ↔ Fits env lits ends vars clauses
+fits-is : (env : EncoderEnv) (lits ends vars : ℕ) (clauses : Clauses) → (status-of (space-for env lits ends vars clauses) ≡ 0) ↔ HasSpace env lits ends vars clauses
 fits-is env lits ends vars clauses =
     (λ h. let c = checked .0 h in record { vars-fit = c .0; lits-fit = c .1 .0; ends-fit = c .1 .1 }, λ f. checked .1 (f .vars-fit, (f .lits-fit, f .ends-fit)))
   where
@@ -48,7 +48,7 @@ fits-is env lits ends vars clauses =
 
 pub adding-is : (checks : List Check) (env : EncoderEnv) (lits ends : List ℕ) (clauses : Clauses) (job : EncoderEnv) → Numbered checks
     → {P : Type 0} → (status-of checks ≡ 0) ↔ P
-    → (adding checks env lits ends clauses job .status ≡ 0) ↔ (P × Fits env (length lits) (length ends) (job .variables) clauses)
+    → (adding checks env lits ends clauses job .status ≡ 0) ↔ (P × HasSpace env (length lits) (length ends) (job .variables) clauses)
 adding-is checks env lits ends clauses job n p =
     Iff·trans
     (settled-is (adding-status checks env (length lits) (length ends) (job .variables) clauses) env lits ends (added env lits ends clauses job) refl)

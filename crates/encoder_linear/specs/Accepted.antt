@@ -8,7 +8,7 @@ use mathlib.Core.Path.{_≡_}
 use Rattle.log_encoding.specs.Columns.{HeightsWithin}
 use Rattle.encoder_env.specs.declared.EncoderEnv.{EncoderEnv}
 use Rattle.encoder_env.specs.Bounds.{WellFormed}
-use Rattle.encoder_answer.specs.Accepted.{Fits}
+use Rattle.encoder_answer.specs.Accepted.{HasSpace}
 use Rattle.encoder_linear.specs.Sums.{coef-at, setting-at, sum-encoded, sum-reached, term-count}
 
 -- one of the job's settings, numbered from 0
@@ -38,4 +38,4 @@ pub record SumAccepted (env : EncoderEnv) (lits ends op : ℕ) (constant : ℤ) 
   pub coefs : (i : ℕ) → i < term-count terms → CoefBounds (coef-at terms i)
   pub constant-in : ConstantBounds constant
   pub heights : HeightsWithin (sum-reached env op constant terms)
-  pub fits : Fits env lits ends (sum-encoded env op constant terms .vars) (sum-encoded env op constant terms .clauses)
+  pub fits : HasSpace env lits ends (sum-encoded env op constant terms .vars) (sum-encoded env op constant terms .clauses)

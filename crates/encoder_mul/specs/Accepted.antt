@@ -3,7 +3,7 @@ use Prim.Native.Nat.{_<_, ℕ}
 use Rattle.log_encoding.specs.Columns.{HeightsWithin}
 use Rattle.encoder_env.specs.declared.EncoderEnv.{EncoderEnv}
 use Rattle.encoder_env.specs.Bounds.{WellFormed}
-use Rattle.encoder_answer.specs.Accepted.{Fits}
+use Rattle.encoder_answer.specs.Accepted.{HasSpace}
 use Rattle.encoder_mul.specs.Products.{product-encoded, product-reached}
 
 -- a well-formed job, three of its settings, a height of at most 12 in every column reached, and space
@@ -13,4 +13,4 @@ pub record ProductAccepted (env : EncoderEnv) (lits ends x y m : ℕ) : Type 0 w
   pub y-known : y < env .count
   pub m-known : m < env .count
   pub heights : HeightsWithin (product-reached env x y m)
-  pub fits : Fits env lits ends (product-encoded env x y m .vars) (product-encoded env x y m .clauses)
+  pub fits : HasSpace env lits ends (product-encoded env x y m .vars) (product-encoded env x y m .clauses)

@@ -8,7 +8,7 @@ use Rattle.norm_csp.specs.Domain.{IntVarRepresentation, binary, list, range}
 use Rattle.log_encoding.specs.EncodeVarLog.{encode-var-log}
 use Rattle.encoder_env.specs.declared.EncoderEnv.{EncoderEnv}
 use Rattle.encoder_env.specs.Bounds.{CodeFits, InRange, ValueBounds, WellFormed}
-use Rattle.encoder_answer.specs.Accepted.{Fits}
+use Rattle.encoder_answer.specs.Accepted.{HasSpace}
 
 -- 1 to 64 strictly rising values
 pub record ListBounds (ks : List ℤ) : Type 0 where
@@ -37,4 +37,4 @@ pub record SettingAccepted (env : EncoderEnv) (lits ends : ℕ) (repr : IntVarRe
   pub job : WellFormed env lits ends
   pub arguments : VarBounds (env .switches) repr
   pub free : env .count < 32
-  pub fits : Fits env lits ends (encode-var-log repr (env .variables) .vars) (encode-var-log repr (env .variables) .clauses)
+  pub fits : HasSpace env lits ends (encode-var-log repr (env .variables) .vars) (encode-var-log repr (env .variables) .clauses)
