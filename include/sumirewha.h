@@ -41,8 +41,9 @@ extern "C" {
 uint32_t sumirewha_encode(const uint8_t *bytes, size_t bytes_len, uint32_t *lits, size_t lits_len,
                           uint32_t *ends, size_t ends_len, uint32_t *counts, size_t counts_len);
 
-/* Runs the job file on the stores as sumirewha_encode does, and makes the text that `cnf` prints: the clauses as DIMACS, or the line
-   `refused F N`. Every line ends in a line feed, and no 0 byte follows.
+/* Runs the job file on the stores as sumirewha_encode does, and makes the text that `cnf` prints: the clauses as DIMACS, whose first line
+   `p cnf V C` has what sumirewha_encode reports as counts[1] and counts[2], or the line `refused F N`. Every line ends in a line feed, and
+   no 0 byte follows.
 
    Answers the length of the whole text. Where that is at most out_len, the text is the first bytes of `out`, and the bytes behind it are as
    they were. Where it is more, nothing is written to `out`. */

@@ -1,9 +1,16 @@
-"""Counts what job files reach: refusals by number, fields of accepted ones, mistakes told apart."""
+"""Counts what job files reach: refusals by number, mistakes told apart; of accepted ones fields and
+variables in no clause."""
 
 from collections import Counter
 
 import jobfile
 from mistakes import told_apart
+
+
+def in_no_clause(calls):
+    """The job's variables that stand in no clause, rising."""
+    used = {lit // 2 for lit in calls.lits[: calls.job.literals]}
+    return [variable for variable in range(calls.job.variables) if variable not in used]
 
 
 class Counted:
@@ -15,14 +22,22 @@ class Counted:
         self.refusals = Counter()
         self.fields = Counter()
         self.mistakes = Counter()
+        self.free = Counter({"a": 0, "their last": 0})
+
+    def count_free(self, calls):
+        """Accepted files by their variables that stand in no clause."""
+        free = in_no_clause(calls)
+        self.free["a"] += free != []
+        self.free["their last"] += calls.job.variables - 1 in free
 
     def answer(self, name, data):
         """The print of a file; it is counted under a name."""
-        text, _ = jobfile.answer(self.driver, data)
+        text, calls = jobfile.answer(self.driver, data)
         accepted = not text.startswith(b"refused")
         self.files[name, "accepted" if accepted else "refused"] += 1
         if accepted:
             self.fields.update(word for word, _ in jobfile.fields(data))
+            self.count_free(calls)
         else:
             self.refusals[int(text.split()[2])] += 1
         self.mistakes.update(told_apart(self.driver, data, text))
@@ -36,5 +51,7 @@ class Counted:
         rows = {"refused by number": self.refusals, "fields of accepted files": self.fields}
         for title, counts in rows.items():
             print(f"{title}: " + "  ".join(f"{key}: {n}" for key, n in sorted(counts.items())))
+        for name, count in self.free.items():
+            print(f"accepted files with {name} variable in no clause: {count}")
         for name, count in self.mistakes.items():
             print(f"files that tell apart {name}: {count}")

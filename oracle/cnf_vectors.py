@@ -77,6 +77,8 @@ def main():
     missing = REACHABLE - set(counted.refusals)
     if missing:
         raise AssertionError(f"refusals that no file reaches: {sorted(missing)}")
+    if not counted.free["their last"]:
+        raise AssertionError("no file tells the variable count from the highest that occurs")
     driver.close()
 
 

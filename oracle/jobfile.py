@@ -83,9 +83,8 @@ def run_fields(calls, data):
 
 
 def dimacs(job, lits, ends):
-    """The print of a job and its stores."""
-    highest = max((lit // 2 + 1 for lit in lits[: job.literals]), default=0)
-    lines = [f"p cnf {highest} {job.clauses}"]
+    """The print of a job and its stores; the header has the job's variable and clause count."""
+    lines = [f"p cnf {job.variables} {job.clauses}"]
     for k in range(job.clauses):
         clause = lits[ends[k] : ends[k + 1]]
         words = [str(-(lit // 2 + 1) if lit % 2 else lit // 2 + 1) for lit in clause]

@@ -76,7 +76,7 @@ BENCH = [
     ("six, 6, even", SIX, "linear 0 2 0 6 1 6 2 6 3 6 4 6 5 6", ["13 "]),
 ]
 EXAMPLE = bytes.fromhex("01 0001 00 02 0004 0000 0002 02 0004 0000 0001")
-EXAMPLE_PRINT = "p cnf 2 1\n-1 -2 0\n"
+EXAMPLE_PRINT = "p cnf 3 1\n-1 -2 0\n"
 
 
 def matches(line, wanted):

@@ -11,7 +11,7 @@ use Rattle.sat.specs.Lit.{is-negated}
 use Rattle.clause_set.specs.Stores.{clause-at, clauses-from}
 use Rattle.encoder_env.specs.declared.EncoderEnv.{EncoderEnv}
 use Rattle.text.specs.Decimal.{decimal}
-use Rattle.dimacs.specs.Dimacs.{clause, clauses, dimacs, header, highest-variable, line, literal, number, print-of, refused}
+use Rattle.dimacs.specs.Dimacs.{clause, clauses, dimacs, header, line, literal, number, print-of, refused}
 use Rattle.dimacs.proofs.Parts.{from-none, from-some}
 
 module _ (l : ℕ) {n d : ℕ} (e : n ≡ number l) (h : (d ≡ length (decimal n)) × (d ≤ 10)) where
@@ -53,14 +53,12 @@ pub line-long : (word : List ℕ) (a b : ℕ) {d f : ℕ} → length word ≤ 8 
     → (length word + d + f + 2 ≡ length (line word a b)) × (length word + d + f + 2 ≤ 30)
 line-long word a b h p q = (simp length-append (omega (arith, p .0, q .0)), omega arith)
 
-pub print-long : (env : EncoderEnv) (lits ends : List ℕ) {v a b : ℕ}
-    → (let cs = clauses-from lits ends 0 (env .clauses) in
-    v ≡ highest-variable cs → a ≡ length (line (112 ∷ 32 ∷ 99 ∷ 110 ∷ 102 ∷ 32 ∷ []) v (env .clauses)) → b ≡ length (clauses cs)
-    → a + b ≡ length (print-of env lits ends))
+pub print-long : (env : EncoderEnv) (lits ends : List ℕ) {a b : ℕ}
+    → a ≡ length (line (112 ∷ 32 ∷ 99 ∷ 110 ∷ 102 ∷ 32 ∷ []) (env .variables) (env .clauses))
+    → b ≡ length (clauses (clauses-from lits ends 0 (env .clauses))) → a + b ≡ length (print-of env lits ends)
 unfolding print-of dimacs header
-print-long env lits ends {v} e p q =
-    let cs = clauses-from lits ends 0 (env .clauses) in
-    rw (← e, length-append (header v (env .clauses)) (clauses cs), p, q)
+print-long env lits ends p q =
+    rw (length-append (header (env .variables) (env .clauses)) (clauses (clauses-from lits ends 0 (env .clauses))), p, q)
 
 pub refusal-long : (f n : ℕ) {a : ℕ} → a ≡ length (line (114 ∷ 101 ∷ 102 ∷ 117 ∷ 115 ∷ 101 ∷ 100 ∷ 32 ∷ []) f n) → a ≡ length (refused f n)
 unfolding refused

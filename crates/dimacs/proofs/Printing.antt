@@ -1,5 +1,5 @@
 -- What each place of the code adds to the print.
-use Prim.Native.Nat.{_+_, _-_, _<_, _≤_, max, suc, ℕ}
+use Prim.Native.Nat.{_+_, _-_, _<_, _≤_, suc, ℕ}
 use lib.ListN.{drop, drop-of-length-le, getD, length}
 use lib.Seq.{drop-cons}
 use mathlib.Core.Bool.{false, true}
@@ -13,7 +13,7 @@ use Rattle.encoder_env.specs.declared.EncoderEnv.{EncoderEnv}
 use Rattle.text.specs.Bytes.{Text, write}
 use Rattle.text.specs.Decimal.{decimal}
 use Rattle.text.proofs.Laws.{rest-after, write-then}
-use Rattle.dimacs.specs.Dimacs.{clause, clauses, dimacs, header, highest-in, highest-variable, line, literal, number, print-of, refused}
+use Rattle.dimacs.specs.Dimacs.{clause, clauses, dimacs, header, line, literal, number, print-of, refused}
 use Rattle.dimacs.proofs.Parts.{from-none, from-some}
 
 -- A literal and a clause ---------------------------------------------------------------------------------------------
@@ -52,25 +52,6 @@ module _ (lits ends : List ℕ) (k n : ℕ) where
   unfolding clauses write
   clauses-end t h q = rw (from-none lits ends k n h) at q
 
-  -- the highest variable, where m is the highest so far
-  pub variable-turn : (m : ℕ) {r : List ℕ} {v g : ℕ} → k < n → r ≡ clause-at lits ends k → v ≡ highest-in r
-      → max m (highest-variable (clauses-from lits ends k (n - k))) ≡ g → max (max m v) (highest-variable (clauses-from lits ends (k + 1) (n - (k + 1)))) ≡ g
-  unfolding highest-variable
-  variable-turn m h e w q = omega (arith, rw (from-some lits ends k n h) at q, w ∙ ap highest-in e)
-
-  pub variable-end : (m : ℕ) {g : ℕ} → n ≤ k → max m (highest-variable (clauses-from lits ends k (n - k))) ≡ g → m ≡ g
-  unfolding highest-variable
-  variable-end m h q = omega (arith, rw (from-none lits ends k n h) at q)
-
-pub highest-turn : (m : ℕ) (p : List ℕ) (i : ℕ) {n g : ℕ} → i < length p → n ≡ number (getD p i 0) → max m (highest-in (drop i p)) ≡ g
-    → max (max m n) (highest-in (drop (i + 1) p)) ≡ g
-unfolding highest-in
-highest-turn m p i h e q = rw (add-one i) (omega (arith, e, rw (drop-cons p i 0 h) at q))
-
-pub highest-end : (m : ℕ) (p : List ℕ) (i : ℕ) {g : ℕ} → length p ≤ i → max m (highest-in (drop i p)) ≡ g → m ≡ g
-unfolding highest-in
-highest-end m p i h q = omega (arith, rw (drop-of-length-le p h) at q)
-
 -- Lines, and the whole -------------------------------------------------------------------------------------------------
 
 pub wrote-line : (s : Text) (word : List ℕ) (a b : ℕ) {t u v w x : Text}
@@ -87,11 +68,8 @@ pub wrote-refused : (s : Text) (f n : ℕ) {u : Text} → u ≡ write s (line (1
 unfolding refused
 wrote-refused s f n w = w
 
-pub wrote-print : (s : Text) (env : EncoderEnv) (lits ends : List ℕ) {v : ℕ} {t u : Text}
-    → (let cs = clauses-from lits ends 0 (env .clauses) in
-    v ≡ highest-variable cs → t ≡ write s (line (112 ∷ 32 ∷ 99 ∷ 110 ∷ 102 ∷ 32 ∷ []) v (env .clauses)) → u ≡ write t (clauses cs)
-    → u ≡ write s (print-of env lits ends))
+pub wrote-print : (s : Text) (env : EncoderEnv) (lits ends : List ℕ) {t u : Text}
+    → t ≡ write s (line (112 ∷ 32 ∷ 99 ∷ 110 ∷ 102 ∷ 32 ∷ []) (env .variables) (env .clauses))
+    → u ≡ write t (clauses (clauses-from lits ends 0 (env .clauses))) → u ≡ write s (print-of env lits ends)
 unfolding print-of dimacs header
-wrote-print s env lits ends {v} e a b =
-    let cs = clauses-from lits ends 0 (env .clauses) in
-    rw (← e) (write-then s (header v (env .clauses)) (clauses cs) a b)
+wrote-print s env lits ends a b = write-then s (header (env .variables) (env .clauses)) (clauses (clauses-from lits ends 0 (env .clauses))) a b

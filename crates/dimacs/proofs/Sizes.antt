@@ -13,7 +13,7 @@ use Rattle.clause_set.specs.Stores.{clauses-from, clauses-of, stores}
 use Rattle.encoder_env.specs.declared.EncoderEnv.{EncoderEnv}
 use Rattle.text.specs.Decimal.{decimal}
 use Rattle.text.proofs.Numerals.{decimal-length}
-use Rattle.dimacs.specs.Dimacs.{clause, clauses, dimacs, header, highest-in, highest-variable, line, literal, number, print-of, refused}
+use Rattle.dimacs.specs.Dimacs.{clause, clauses, dimacs, header, line, literal, number, print-of, refused}
 
 -- a line whose numbers have at most i + 1 and j + 1 digits
 line-size : (word : List ℕ) (i j a b : ℕ) → a < 10 ^ suc i → b < 10 ^ suc j → length (line word a b) ≤ length word + i + j + 4
@@ -45,17 +45,6 @@ module _ (v : ℕ) (small : v ≤ 65535) where
   clauses-size [] b = omega arith
   clauses-size (c ∷ cs) b = rw length-append (omega (arith, clause-size c (b .0), clauses-size cs (b .1)))
 
--- V is at most the number of variables
-highest-in-below : (v : ℕ) (ls : List ℕ) → LitsBelow v ls → highest-in ls ≤ v
-unfolding highest-in
-highest-in-below v [] b = omega arith
-highest-in-below v (l ∷ ls) b = omega (arith, b .0, highest-in-below v ls (b .1))
-
-pub highest-variable-below : (v : ℕ) (cs : Clauses) → ClausesBelow v cs → highest-variable cs ≤ v
-unfolding highest-variable
-highest-variable-below v [] b = omega arith
-highest-variable-below v (c ∷ cs) b = omega (arith, highest-in-below v c (b .0), highest-variable-below v cs (b .1))
-
 clauses-count : (lits ends : List ℕ) (k n : ℕ) → length (clauses-from lits ends k n) ≡ n
 clauses-count lits ends k zero = refl
 clauses-count lits ends k (suc n) = ap suc (clauses-count lits ends (suc k) n)
@@ -68,12 +57,11 @@ module _ (env : EncoderEnv) (lits ends : List ℕ) where
 
   -- the literals are those of the job's variables, which are at most 65,535
   module _ (small : env .variables ≤ 65535) (below : ClausesBelow (env .variables) written) where
-    -- 7 bytes a literal entry, 2 a clause, 17 the header of fewer than 10,000 clauses
+    -- 7 bytes a literal entry, 2 a clause, 17 the header of at most 65,535 variables and fewer than 10,000 clauses
     pub print-size : env .clauses < 10000 → length (print-of env lits ends) ≤ 7 * entries written + 2 * env .clauses + 17
     unfolding print-of dimacs header
     print-size few =
-        let v = highest-variable-below (env .variables) written below in
-        let h = line-size (112 ∷ 32 ∷ 99 ∷ 110 ∷ 102 ∷ 32 ∷ []) 4 3 (highest-variable written) (env .clauses) (omega (arith, v)) few in
+        let h = line-size (112 ∷ 32 ∷ 99 ∷ 110 ∷ 102 ∷ 32 ∷ []) 4 3 (env .variables) (env .clauses) (omega arith) few in
         rw length-append (omega (arith, h, clauses-size (env .variables) small written below, clauses-count lits ends 0 (env .clauses)))
 
     -- of 8,192 literals and 4,095 clauses, whose ends and the leading 0 are 4,096 entries

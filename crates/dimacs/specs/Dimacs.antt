@@ -1,5 +1,5 @@
 -- The print of a job's clauses and of a refusal, in ASCII (document 01: the job file and its print).
-use Prim.Native.Nat.{_+_, max, ℕ}
+use Prim.Native.Nat.{_+_, ℕ}
 use mathlib.Core.Bool.{cond}
 use mathlib.Core.List.{List, [], _++_, _∷_}
 use Rattle.sat.specs.Clause.{Clauses}
@@ -38,22 +38,11 @@ header v c = line (112 ∷ 32 ∷ 99 ∷ 110 ∷ 102 ∷ 32 ∷ []) v c
 unfoldable pub refused : ℕ → ℕ → List ℕ
 refused f n = line (114 ∷ 101 ∷ 102 ∷ 117 ∷ 115 ∷ 101 ∷ 100 ∷ 32 ∷ []) f n
 
--- the highest-numbered variable that occurs in a clause, plus 1; 0 if none
-unfoldable pub highest-in : List ℕ → ℕ
-highest-in [] = 0
-highest-in (l ∷ ls) = max (number l) (highest-in ls)
-
--- V: the same of all clauses
-unfoldable pub highest-variable : Clauses → ℕ
-highest-variable [] = 0
-highest-variable (c ∷ cs) = max (highest-in c) (highest-variable cs)
-
 -- the header with V and C, then the clauses
 unfoldable pub dimacs : ℕ → ℕ → Clauses → List ℕ
 dimacs v c cs = header v c ++ clauses cs
 
--- The print of a job and its stores. The clauses written are all those below the job's clause count, which is C, as the stores hold them.
+-- The print of a job and its stores. V is the job's variable count (document 02, #101), C its clause count; the clauses written are all those
+-- below C, as the stores hold them.
 unfoldable pub print-of : EncoderEnv → List ℕ → List ℕ → List ℕ
-print-of env lits ends =
-    let cs = clauses-of (stores lits ends (env .literals) (env .clauses)) in
-    dimacs (highest-variable cs) (env .clauses) cs
+print-of env lits ends = dimacs (env .variables) (env .clauses) (clauses-of (stores lits ends (env .literals) (env .clauses)))

@@ -60,8 +60,7 @@ pub fn dimacs_length(env: EncoderEnv, lits: &[u32], ends: &[u32]) -> usize
     ensures { λ r. ⌜ r ≡ length (print-of env (now (lits .entry)) (now (ends .entry))) ⌝ }
 {
     let count = env.clauses;
-    let v = super::highest_variable(lits, ends, count);
-    line_length(b"p cnf ", v, count) + clauses_length(lits, ends, count)
+    line_length(b"p cnf ", env.variables, count) + clauses_length(lits, ends, count)
 }
 
 // The line of a refusal.

@@ -3,7 +3,7 @@
 ghost use mathlib.Core.Path.{_≡_};
 ghost use Rattle.text.specs.Bytes.{text as text-of, write};
 ghost use Rattle.clause_set.specs.Stores.{clause-at, clauses-from};
-ghost use Rattle.dimacs.specs.Dimacs.{clause, clauses, highest-in, highest-variable, line, literal, number, print-of, refused};
+ghost use Rattle.dimacs.specs.Dimacs.{clause, clauses, line, literal, number, print-of, refused};
 
 mod lengths; // lengths.rt: how long a print is
 mod whole; // whole.rt: a print written whole or not at all
@@ -76,38 +76,6 @@ fn put_clauses(out: &mut [u8], at: usize, lits: &[u32], ends: &[u32], count: u32
     to
 }
 
-// The highest variable in a clause, plus 1.
-fn highest_in(part: &[u32]) -> u32
-    ensures { λ r. ⌜ r ≡ highest-in (now (part .entry)) ⌝ }
-{
-    let mut most: u32 = 0;
-    let mut i: usize = 0;
-    while i < part.len() {
-        let n = number(Lit(part[i]));
-        if most < n {
-            most = n;
-        }
-        i += 1;
-    }
-    most
-}
-
-// The highest variable in the clauses below `count`, plus 1.
-fn highest_variable(lits: &[u32], ends: &[u32], count: u32) -> u32
-    ensures { λ r. ⌜ r ≡ highest-variable (clauses-from (now (lits .entry)) (now (ends .entry)) 0 count) ⌝ }
-{
-    let mut most: u32 = 0;
-    let mut k: u32 = 0;
-    while k < count {
-        let v = highest_in(clause_at(lits, ends, k));
-        if most < v {
-            most = v;
-        }
-        k += 1;
-    }
-    most
-}
-
 // A word, two numbers with a space between them, and a line feed.
 fn put_line(out: &mut [u8], word: &[u8], a: u32, b: u32) -> usize
     ensures { λ r. ⌜ text-of (now (out .exit)) r ≡ write (text-of (now (out .entry)) 0) (line (now (word .entry)) a b) ⌝ }
@@ -124,8 +92,7 @@ fn put_dimacs(out: &mut [u8], env: EncoderEnv, lits: &[u32], ends: &[u32]) -> us
     ensures { λ r. ⌜ text-of (now (out .exit)) r ≡ write (text-of (now (out .entry)) 0) (print-of env (now (lits .entry)) (now (ends .entry))) ⌝ }
 {
     let count = env.clauses;
-    let v = highest_variable(lits, ends, count);
-    let to = put_line(out, b"p cnf ", v, count);
+    let to = put_line(out, b"p cnf ", env.variables, count);
     put_clauses(out, to, lits, ends, count)
 }
 

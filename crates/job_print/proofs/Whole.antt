@@ -1,5 +1,5 @@
 -- How long the text of a job file is: over the program's stores at most 65,551 bytes (`text-size`), so that the program prints it whole
--- (`job-printed`).
+-- (`job-printed`). Its header counts every variable of its clauses (`variables-counted`).
 use Prim.Native.Nat.{_<_, _^_, _≤_, ℕ}
 use lib.Dec.{eqb}
 use lib.ListN.{length, length-replicate, replicate, take}
@@ -8,11 +8,14 @@ use mathlib.Core.List.{List}
 use mathlib.Core.Path.{_∙_, _≡_, ap, refl, subst, sym}
 use native.Mathlib.Omega.{arith}
 use borrow.Author.Tests.{eqb-true, ne-eqb}
+use Rattle.sat.specs.Encodes.{ClausesBelow}
+use Rattle.clause_set.specs.Stores.{clauses-of, stores}
 use Rattle.text.specs.Bytes.{Printed}
 use Rattle.text.proofs.Laws.{printed-first}
 use Rattle.dimacs.specs.Dimacs.{print-of, refused}
 use Rattle.dimacs.proofs.Sizes.{print-fits, refused-size}
 use Rattle.encoder_read.specs.Calls.{open-outcome}
+use Rattle.encoder.specs.Faithful.{written}
 use Rattle.encoder.specs.Run.{State, left, run}
 use Rattle.encoder.proofs.Faithful.{written-known}
 use Rattle.encoder.proofs.Lengths.{open-long, run-long}
@@ -28,6 +31,14 @@ accepted-within bytes lits ends h =
     let ran = accepted-is-run bytes lits ends h in
     let (kept, below, counted) = written-known (switches-of bytes) lits ends (ran .opening) (calls-of bytes) in
     subst (λ (s : State). length (s .lits) ≤ 16777216) (sym (ran .calls)) (kept .lits-max)
+
+-- every variable that an accepted file's clauses have is below V
+pub variables-counted : (bytes lits ends : List ℕ) → run-file bytes lits ends .status ≡ 0
+    → (let r = run-file bytes lits ends in ClausesBelow (r .env .variables) (clauses-of (stores (r .lits) (r .ends) (r .env .literals) (r .env .clauses))))
+variables-counted bytes lits ends h =
+    let ran = accepted-is-run bytes lits ends h in
+    let (kept, below, counted) = written-known (switches-of bytes) lits ends (ran .opening) (calls-of bytes) in
+    subst (λ (s : State). ClausesBelow (s .env .variables) (written s)) (sym (ran .calls)) below
 
 module _ (bytes lits ends : List ℕ) (long-lits : length lits ≤ 8192) (long-ends : length ends ≤ 4096) where
   -- the print of an accepted file

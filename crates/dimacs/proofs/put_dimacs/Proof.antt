@@ -4,9 +4,6 @@ use Rattle.dimacs.proofs.Printing.{wrote-print}
 use Rattle.dimacs.proofs.put_dimacs.Statement.{statement}
 use Rattle.dimacs.proofs.put_dimacs.Tie as tie
 
-highest-variable-requires : tie.Need-highest-variable-requires
-highest-variable-requires c κs = search needs
-
 slice-aggregate-put-line : tie.Need-slice-aggregate-put-line
 slice-aggregate-put-line c = search needs
 
@@ -21,14 +18,13 @@ same-length c = search needs
 
 returns : tie.Need-returns
 returns c =
-    let a = c .before .before .before .before .before .before .before .before .before .before .before .before .before .args in
-    wrote-print _ (a .env) (a .lits .now) (a .ends .now) (c .before .before .before .before .before .before .before .before .before .highest-variable .ensures) (c .before .before .before .before .before .before .put-line .ensures) (c .before .before .put-clauses .ensures)
+    let a = c .before .before .before .before .before .before .before .before .before .before .before .before .args in
+    wrote-print _ (a .env) (a .lits .now) (a .ends .now) (c .before .before .before .before .before .before .put-line .ensures) (c .before .before .put-clauses .ensures)
 
 pub put-dimacs-spec : {M : Type 1} → statement M
 put-dimacs-spec =
     tie.close
     (tie.spec
-    highest-variable-requires
     slice-aggregate-put-line
     put-line-requires
     put-clauses-requires

@@ -4,9 +4,6 @@ use Rattle.dimacs.proofs.Counting.{print-long}
 use Rattle.dimacs.proofs.lengths.dimacs_length.Statement.{statement}
 use Rattle.dimacs.proofs.lengths.dimacs_length.Tie as tie
 
-highest-variable-requires : tie.Need-highest-variable-requires
-highest-variable-requires c κs = search needs
-
 slice-aggregate-line-length : tie.Need-slice-aggregate-line-length
 slice-aggregate-line-length c = search needs
 
@@ -21,14 +18,13 @@ add-result c = search needs
 
 returns : tie.Need-returns
 returns c =
-    let a = c .before .before .before .before .before .before .args in
-    print-long (a .env) (a .lits .now) (a .ends .now) (c .before .before .before .highest-variable .ensures) (c .before .line-length .ensures .0) (c .clauses-length .ensures .0)
+    let a = c .before .before .before .before .before .args in
+    print-long (a .env) (a .lits .now) (a .ends .now) (c .before .line-length .ensures .0) (c .clauses-length .ensures .0)
 
 pub dimacs-length-spec : {M : Type 1} → statement M
 dimacs-length-spec =
     tie.close
     (tie.spec
-    highest-variable-requires
     slice-aggregate-line-length
     line-length-requires
     clauses-length-requires

@@ -1,0 +1,113 @@
+#!/usr/bin/env python3
+"""Solvers that size their tables from the header: whether each variable of a job is given a value.
+
+  solver_values.py SEED [SEED..] [--count COUNT] [--cnf PATH] [--solver PATH..]
+
+Printed by the program cnf are the sheets of examples/ and the accepted ones of the files of
+jobfiles.py. A solver reads a print from standard input and answers `s SATISFIABLE` with `v` lines,
+or `s UNSATISFIABLE`. A satisfiable answer must name each of the job's variables once, those that
+stand in no clause too, satisfy the printed clauses, and read back as a choice that meets the book;
+all solvers must say the same of a file.
+"""
+
+import argparse
+import subprocess
+import sys
+from collections import Counter
+from pathlib import Path
+
+import jobfile
+from book import read_back
+from cnf_coverage import in_no_clause
+from cnf_differential import CNF, add_file_options
+from differential import answer_of
+from driver import Driver
+from jobfiles import drawn_files
+from solve_files import SATISFIABLE, UNSATISFIABLE, book_of, clauses_of, holds
+
+EXAMPLES = Path(__file__).resolve().parent.parent / "examples"
+SOLVERS = ["cadical", "picosat"]
+ENDINGS = {SATISFIABLE: "s SATISFIABLE", UNSATISFIABLE: "s UNSATISFIABLE"}
+
+
+def files(driver, options):
+    """Names and bytes of all files."""
+    for path in sorted(EXAMPLES.glob("*.job")):
+        yield path.name, path.read_bytes()
+    for seed in options.seeds:
+        for index, (_, data) in enumerate(drawn_files(driver, seed, options.count)):
+            yield f"seed {seed}, file {index}", data
+
+
+def solve(solver, text):
+    """The `s` line of a solver's answer, and the numbers of its `v` lines."""
+    ended = subprocess.run([solver], input=text, capture_output=True, check=False)
+    lines = ended.stdout.decode().splitlines()
+    status = [line for line in lines if line.startswith("s ")]
+    if status != [ENDINGS.get(ended.returncode)]:
+        raise RuntimeError(f"{solver} ended with {ended.returncode}, {status}")
+    return status[0], [int(w) for line in lines if line.startswith("v ") for w in line.split()[1:]]
+
+
+def faults_of(calls, book, text, numbers):
+    """What is wrong with a satisfiable answer."""
+    variables = calls.job.variables
+    if numbers[-1:] != [0]:
+        return ["its list does not end in 0"]
+    if sorted(abs(number) for number in numbers[:-1]) != list(range(1, variables + 1)):
+        return [f"{len(numbers) - 1} values for {variables} variables"]
+    true = set(numbers)
+    assignment = [int(variable + 1 in true) for variable in range(variables)]
+    if not all(holds(clause, assignment) for clause in clauses_of(text)):
+        return ["a clause is not satisfied"]
+    choice = read_back(calls, assignment)
+    met = book.met_by(choice[: book.switches], choice[book.switches :])
+    return [] if met else ["the choice does not meet the book"]
+
+
+def checked(data, calls, text, solvers, counts):
+    """The faults of one accepted file; what it has is counted."""
+    answers = {solver: solve(solver, text) for solver in solvers}
+    statuses = {status for status, _ in answers.values()}
+    if len(statuses) > 1:
+        return [f"the solvers differ: {statuses}"]
+    (status,) = statuses
+    counts[status] += 1
+    if status == ENDINGS[UNSATISFIABLE]:
+        return [f"{s}: values" for s, (_, numbers) in answers.items() if numbers]
+    free = in_no_clause(calls)
+    counts["of these with a variable in no clause"] += free != []
+    counts["of these with their last variable in no clause"] += calls.job.variables - 1 in free
+    counts["variables of satisfiable files"] += calls.job.variables
+    counts["of these in no clause"] += len(free)
+    book = book_of(data)
+    rows = [(solver, faults_of(calls, book, text, n)) for solver, (_, n) in answers.items()]
+    return [f"{solver}: {fault}" for solver, faults in rows for fault in faults]
+
+
+def main():
+    parser = argparse.ArgumentParser(description="Asks solvers for a value of each variable.")
+    add_file_options(parser)
+    parser.add_argument("--cnf", default=str(CNF), help="the program whose print is solved")
+    parser.add_argument("--solver", nargs="+", default=SOLVERS)
+    options = parser.parse_args()
+    driver = Driver(options.driver)
+    counts, wrong = Counter(), 0
+    for name, data in files(driver, options):
+        judged, calls = jobfile.answer(driver, data)
+        if judged.startswith(b"refused"):
+            continue
+        counts["accepted files"] += 1
+        faults = checked(data, calls, answer_of(options.cnf, data), options.solver, counts)
+        wrong += faults != []
+        for fault in faults:
+            print(f"{name}: {fault}: {data.hex()[:400]}")
+    for name, count in counts.items():
+        print(f"{name}: {count}")
+    print(f"files with faults: {wrong}")
+    driver.close()
+    sys.exit(1 if wrong else 0)
+
+
+if __name__ == "__main__":
+    main()
