@@ -57,8 +57,7 @@ pub print-long : (env : EncoderEnv) (lits ends : List ℕ) {a b : ℕ}
     → a ≡ length (line (112 ∷ 32 ∷ 99 ∷ 110 ∷ 102 ∷ 32 ∷ []) (env .variables) (env .clauses))
     → b ≡ length (clauses (clauses-from lits ends 0 (env .clauses))) → a + b ≡ length (print-of env lits ends)
 unfolding print-of dimacs header
-print-long env lits ends p q =
-    rw (length-append (header (env .variables) (env .clauses)) (clauses (clauses-from lits ends 0 (env .clauses))), p, q)
+print-long env lits ends p q = rw length-append (omega (arith, p, q))
 
 pub refusal-long : (f n : ℕ) {a : ℕ} → a ≡ length (line (114 ∷ 101 ∷ 102 ∷ 117 ∷ 115 ∷ 101 ∷ 100 ∷ 32 ∷ []) f n) → a ≡ length (refused f n)
 unfolding refused

@@ -4,9 +4,8 @@ use lib.ListN.{drop, drop-of-length-le, getD, length}
 use lib.Seq.{drop-cons}
 use mathlib.Core.Bool.{false, true}
 use mathlib.Core.List.{List, [], _++_, _∷_}
-use mathlib.Core.Path.{_∙_, _≡_, ap}
+use mathlib.Core.Path.{_∙_, _≡_}
 use native.Mathlib.Numerals.{add-one}
-use native.Mathlib.Omega.{arith}
 use Rattle.sat.specs.Lit.{is-negated}
 use Rattle.clause_set.specs.Stores.{clause-at, clauses-from}
 use Rattle.encoder_env.specs.declared.EncoderEnv.{EncoderEnv}
