@@ -5,7 +5,7 @@
                                     DIRECTORY/cnf_files (crates if absent)
 
 cnf reads one job file of 8,192 bytes, as long as one may be: examples/rev_ceiling.job, then fields that add nothing, and a
-last one that adds a clause, so that a program that loses a byte prints another text. The input of cnf_files is a row of job files, each behind
+last one that adds a variable in no clause, so that a program that loses a byte prints another text. The input of cnf_files is a row of job files, each behind
 its length in two bytes, high byte first; its output is their prints, one after another. The files
 are those of cnf_chapters.py, then random ones whose print is not long. What was reached is printed.
 """
@@ -25,7 +25,7 @@ from replay_vectors import DIRECTORY, write
 KEPT = Path(__file__).resolve().parent.parent / "examples" / "rev_ceiling.job"
 NO_TERMS = bytes([5, 0, 5, 0, 0, 0, 0, 0])  # a sum of no terms, Eq 0
 ONLY_0 = bytes([3, 0, 2, 0, 0])  # a list with the one value 0
-LAST = bytes([2, 0, 4, 0, 0, 0, 2])  # a range 0..2
+LAST = bytes([2, 0, 4, 0, 0, 0, 1])  # a range 0..1
 LENGTH = 8192
 RANDOM = 200
 LONGEST = 10_000

@@ -83,6 +83,36 @@ def checked(calls, book, text, solver):
         yield "one assignment for each choice, and no other", not agrees(calls, clauses, book)
 
 
+def random_files(driver, options):
+    """Names and bytes of the random files."""
+    for seed in options.seeds:
+        for index, (_, data) in enumerate(drawn_files(driver, seed, options.count)):
+            yield f"seed {seed}, file {index}", data
+
+
+def check_files(driver, files, cnf, faults_in):
+    """Goes through the accepted ones of named files, and ends the program with what was counted.
+
+    The print is that of the program cnf, or the judge's if there is none. faults_in is given a
+    file, its calls, its print and the counts, and answers with what is wrong.
+    """
+    counts, wrong = Counter(), 0
+    for name, data in files:
+        text, calls = jobfile.answer(driver, data)
+        if text.startswith(b"refused"):
+            continue
+        counts["accepted files"] += 1
+        faults = list(faults_in(data, calls, answer_of(cnf, data) if cnf else text, counts))
+        wrong += len(faults)
+        for fault in faults:
+            print(f"{name}: {fault}: {data.hex()[:400]}")
+    for name, count in counts.items():
+        print(f"{name}: {count}")
+    print(f"faults: {wrong}")
+    driver.close()
+    sys.exit(1 if wrong else 0)
+
+
 def main():
     parser = argparse.ArgumentParser(description="Solves printed job files.")
     add_file_options(parser)
@@ -90,25 +120,14 @@ def main():
     parser.add_argument("--solver", default="minisat")
     options = parser.parse_args()
     driver = Driver(options.driver)
-    counts, faults = Counter(), 0
-    for seed in options.seeds:
-        for index, (_, data) in enumerate(drawn_files(driver, seed, options.count)):
-            text, calls = jobfile.answer(driver, data)
-            if text.startswith(b"refused"):
-                continue
-            if options.cnf:
-                text = answer_of(options.cnf, data)
-            counts["accepted files"] += 1
-            for name, fault in checked(calls, book_of(data), text, options.solver):
-                counts[name] += 1
-                faults += fault
-                if fault:
-                    print(f"seed {seed}, file {index}: not so: {name}: {data.hex()[:400]}")
-    for name, count in counts.items():
-        print(f"{name}: {count}")
-    print(f"faults: {faults}")
-    driver.close()
-    sys.exit(1 if faults else 0)
+
+    def faults_in(data, calls, text, counts):
+        for name, fault in checked(calls, book_of(data), text, options.solver):
+            counts[name] += 1
+            if fault:
+                yield f"not so: {name}"
+
+    check_files(driver, random_files(driver, options), options.cnf, faults_in)
 
 
 if __name__ == "__main__":

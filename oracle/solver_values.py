@@ -12,31 +12,20 @@ all solvers must say the same of a file.
 
 import argparse
 import subprocess
-import sys
-from collections import Counter
+from functools import partial
+from itertools import chain
 from pathlib import Path
 
-import jobfile
 from book import read_back
 from cnf_coverage import in_no_clause
 from cnf_differential import CNF, add_file_options
-from differential import answer_of
 from driver import Driver
-from jobfiles import drawn_files
-from solve_files import SATISFIABLE, UNSATISFIABLE, book_of, clauses_of, holds
+from solve_files import SATISFIABLE, UNSATISFIABLE
+from solve_files import book_of, check_files, clauses_of, holds, random_files
 
 EXAMPLES = Path(__file__).resolve().parent.parent / "examples"
 SOLVERS = ["cadical", "picosat"]
 ENDINGS = {SATISFIABLE: "s SATISFIABLE", UNSATISFIABLE: "s UNSATISFIABLE"}
-
-
-def files(driver, options):
-    """Names and bytes of all files."""
-    for path in sorted(EXAMPLES.glob("*.job")):
-        yield path.name, path.read_bytes()
-    for seed in options.seeds:
-        for index, (_, data) in enumerate(drawn_files(driver, seed, options.count)):
-            yield f"seed {seed}, file {index}", data
 
 
 def solve(solver, text):
@@ -65,7 +54,7 @@ def faults_of(calls, book, text, numbers):
     return [] if met else ["the choice does not meet the book"]
 
 
-def checked(data, calls, text, solvers, counts):
+def checked(solvers, data, calls, text, counts):
     """The faults of one accepted file; what it has is counted."""
     answers = {solver: solve(solver, text) for solver in solvers}
     statuses = {status for status, _ in answers.values()}
@@ -92,21 +81,9 @@ def main():
     parser.add_argument("--solver", nargs="+", default=SOLVERS)
     options = parser.parse_args()
     driver = Driver(options.driver)
-    counts, wrong = Counter(), 0
-    for name, data in files(driver, options):
-        judged, calls = jobfile.answer(driver, data)
-        if judged.startswith(b"refused"):
-            continue
-        counts["accepted files"] += 1
-        faults = checked(data, calls, answer_of(options.cnf, data), options.solver, counts)
-        wrong += faults != []
-        for fault in faults:
-            print(f"{name}: {fault}: {data.hex()[:400]}")
-    for name, count in counts.items():
-        print(f"{name}: {count}")
-    print(f"files with faults: {wrong}")
-    driver.close()
-    sys.exit(1 if wrong else 0)
+    examples = [(path.name, path.read_bytes()) for path in sorted(EXAMPLES.glob("*.job"))]
+    files = chain(examples, random_files(driver, options))
+    check_files(driver, files, options.cnf, partial(checked, options.solver))
 
 
 if __name__ == "__main__":

@@ -9,51 +9,54 @@ use mathlib.Core.Path.{_∙_, _≡_, ap, refl, subst, sym}
 use native.Mathlib.Omega.{arith}
 use borrow.Author.Tests.{eqb-true, ne-eqb}
 use Rattle.sat.specs.Encodes.{ClausesBelow}
-use Rattle.clause_set.specs.Stores.{clauses-of, stores}
+use Rattle.sat.specs.Size.{entries}
 use Rattle.text.specs.Bytes.{Printed}
 use Rattle.text.proofs.Laws.{printed-first}
 use Rattle.dimacs.specs.Dimacs.{print-of, refused}
 use Rattle.dimacs.proofs.Sizes.{print-fits, refused-size}
+use Rattle.encoder_env.proofs.Kept.{Kept}
 use Rattle.encoder_read.specs.Calls.{open-outcome}
 use Rattle.encoder.specs.Faithful.{written}
-use Rattle.encoder.specs.Run.{State, left, run}
+use Rattle.encoder.specs.Run.{State, left}
 use Rattle.encoder.proofs.Faithful.{written-known}
 use Rattle.encoder.proofs.Lengths.{open-long, run-long}
-use Rattle.job_file.specs.Accepted.{calls-of, switches-of}
+use Rattle.job_file.specs.Accepted.{calls-of, left-by, switches-of}
 use Rattle.job_file.specs.Run.{JobRun, job-run, run-file}
 use Rattle.job_file.specs.declared.JobAnswer.{JobAnswer}
 use Rattle.job_file.proofs.AcceptedRun.{accepted-is-run}
 use Rattle.job_print.specs.Print.{FilePrinted, answer-of, file-print, program-print}
 
--- the literal store of an accepted file is within its bound
-accepted-within : (bytes lits ends : List ℕ) → run-file bytes lits ends .status ≡ 0 → length (run-file bytes lits ends .lits) ≤ 16777216
-accepted-within bytes lits ends h =
-    let ran = accepted-is-run bytes lits ends h in
-    let (kept, below, counted) = written-known (switches-of bytes) lits ends (ran .opening) (calls-of bytes) in
-    subst (λ (s : State). length (s .lits) ≤ 16777216) (sym (ran .calls)) (kept .lits-max)
+-- what is known of the job, the stores and the clauses that an accepted file leaves, where these stores were lent
+record Known (lits ends : List ℕ) (s : State) : Type 0 where
+  kept : Kept (s .env) (length (s .lits)) (length (s .ends))
+  below : ClausesBelow (s .env .variables) (written s)
+  counted : entries (written s) ≡ s .env .literals
+  lits-long : length (s .lits) ≡ length lits
+  ends-long : length (s .ends) ≡ length ends
 
--- every variable that an accepted file's clauses have is below V
-pub variables-counted : (bytes lits ends : List ℕ) → run-file bytes lits ends .status ≡ 0
-    → (let r = run-file bytes lits ends in ClausesBelow (r .env .variables) (clauses-of (stores (r .lits) (r .ends) (r .env .literals) (r .env .clauses))))
-variables-counted bytes lits ends h =
-    let ran = accepted-is-run bytes lits ends h in
-    let (kept, below, counted) = written-known (switches-of bytes) lits ends (ran .opening) (calls-of bytes) in
-    subst (λ (s : State). ClausesBelow (s .env .variables) (written s)) (sym (ran .calls)) below
+module _ (bytes lits ends : List ℕ) (accepted : run-file bytes lits ends .status ≡ 0) where
+  known : Known lits ends (left-by (run-file bytes lits ends))
+  known =
+      let ran = accepted-is-run bytes lits ends accepted in
+      let (kept, below, counted) = written-known (switches-of bytes) lits ends (ran .opening) (calls-of bytes) in
+      let first = open-long (switches-of bytes) lits ends in
+      let long = run-long (left (open-outcome (switches-of bytes) lits ends)) (calls-of bytes) in
+      subst (Known lits ends) (sym (ran .calls))
+      (record { kept = kept; below = below; counted = counted; lits-long = long .0 ∙ first .0; ends-long = long .1 ∙ first .1 })
+
+  -- V counts every variable that the clauses have
+  pub variables-counted : ClausesBelow (run-file bytes lits ends .env .variables) (written (left-by (run-file bytes lits ends)))
+  variables-counted = known .below
 
 module _ (bytes lits ends : List ℕ) (long-lits : length lits ≤ 8192) (long-ends : length ends ≤ 4096) where
   -- the print of an accepted file
   accepted-size : run-file bytes lits ends .status ≡ 0
       → (let r = run-file bytes lits ends in length (print-of (r .env) (r .lits) (r .ends)) ≤ 65551)
   accepted-size h =
-      let ran = accepted-is-run bytes lits ends h in
-      let start = left (open-outcome (switches-of bytes) lits ends) in
-      let end = run start (calls-of bytes) in
-      let (kept, below, counted) = written-known (switches-of bytes) lits ends (ran .opening) (calls-of bytes) in
-      let first = open-long (switches-of bytes) lits ends in
-      let long = run-long start (calls-of bytes) in
-      subst (λ (s : State). length (print-of (s .env) (s .lits) (s .ends)) ≤ 65551) (sym (ran .calls))
-      (print-fits (end .env) (end .lits) (end .ends) (kept .variables-max) below (omega (arith, counted, kept .literals-in, long .0, first .0))
-      (omega (arith, kept .clauses-in, long .1, first .1)))
+      let r = run-file bytes lits ends in
+      let k = known bytes lits ends h in
+      print-fits (r .env) (r .lits) (r .ends) (k .kept .variables-max) (k .below) (omega (arith, k .counted, k .kept .literals-in, k .lits-long))
+      (omega (arith, k .kept .clauses-in, k .ends-long))
 
   -- the field and the number of a refusal are u32
   module _ (field : run-file bytes lits ends .field < 2 ^ 32) (status : run-file bytes lits ends .status < 2 ^ 32) where
@@ -73,7 +76,7 @@ module _ (bytes lits ends : List ℕ) (long-lits : length lits ≤ 8192) (long-e
 module _ (bytes lits ends : List ℕ) (a : JobAnswer) (lits₁ ends₁ : List ℕ) (ran : job-run a lits₁ ends₁ ≡ run-file bytes lits ends) where
   -- the literal store of an accepted file is within its bound
   pub store-within : a .status ≡ 0 → length lits₁ ≤ 16777216
-  store-within h = subst (λ (j : JobRun). length (j .lits) ≤ 16777216) (sym ran) (accepted-within bytes lits ends (ap (λ (j : JobRun). j .status) (sym ran) ∙ h))
+  store-within h = subst (λ (j : JobRun). length (j .lits) ≤ 16777216) (sym ran) (known bytes lits ends (ap (λ (j : JobRun). j .status) (sym ran) ∙ h) .kept .lits-max)
 
   module _ (field : a .field < 2 ^ 32) (status : a .status < 2 ^ 32) (out after : List ℕ) (r : ℕ) where
     abbrev Answered : Type 0
