@@ -6,8 +6,7 @@ from pathlib import Path
 
 sys.path.insert(0, str(Path(__file__).resolve().parent.parent / "oracle"))
 from jobfiles import field
-
-EQ, NE, GE = 0, 1, 2
+from turned import GE, GT, LE, LT, NE
 
 SHEETS = {
     # settings 0 rev ceiling (hundreds a minute), 1 fuel trim, 2 injection step
@@ -45,6 +44,15 @@ SHEETS = {
         ("range", -10, 10),
         ("linear", GE, -60, 0, 1),  # the ceiling is at least 60
         ("linear", GE, 45, 0, -1, 1, -1),  # ceiling + trim is at most 45
+    ],
+    # settings 0 fuel, 1 boost step
+    "fuel_limit": [
+        ("open", 0),
+        ("range", 0, 99),
+        ("range", 0, 30),
+        ("linear", LE, -40, 0, 1),  # fuel is at most 40
+        ("linear", LT, 0, 0, 1, 1, -2),  # fuel is below twice the boost
+        ("linear", GT, -30, 0, 1),  # fuel is above 30
     ],
 }
 

@@ -2,6 +2,7 @@
 
 from heights import linear_reached, mul_reached
 from job import MAX_CODE, MAX_SETTINGS, MAX_VALUE
+from turned import OPERATIONS
 
 EDGE_VALUES = [-4096, -4095, -4094, -2048, -1, 0, 1, 2047, 2048, 4094, 4095, 4096]
 EDGE_COEFFICIENTS = [-256, -255, -254, -128, -1, 0, 1, 127, 128, 254, 255, 256]
@@ -102,10 +103,10 @@ def constant(rng, job, flat):
 def edge_linear(rng, job):
     """Operation, constant and flat terms with a fault or at a bound."""
     flat = terms(rng, job)
-    op, number = rng.randrange(3), constant(rng, job, flat)
+    op, number = rng.choice(OPERATIONS), constant(rng, job, flat)
     fault = rng.randrange(7)
     if fault == 0:
-        op = rng.choice([3, 4, 255, 2**32 - 1])
+        op = rng.choice([6, 7, 255, 2**32 - 1])
     if fault == 1:
         flat = flat + [rng.randrange(32)]
     if fault == 2:
@@ -119,7 +120,7 @@ def edge_linear(rng, job):
     return op, number, flat
 
 
-def sought_linear(rng, job, wanted, ops=(0, 1, 2), draw=coefficient, tries=200):
+def sought_linear(rng, job, wanted, ops=OPERATIONS, draw=coefficient, tries=200):
     """A sum whose columns are as wanted, or the last one tried."""
     for _ in range(tries):
         flat = terms(rng, job, draw)

@@ -20,6 +20,7 @@ from selfcheck import BENCH, LARGE, SIX
 ANY = 2**32
 SEVEN_EIGHT = [LARGE, "open 0", "range 0 127", "range 0 255", "range 0 4095"]
 OTHERS = [(1, 1), (2, 1), (0, -1), (1, -1), (2, -1), (1, 3), (2, 3)]
+OTHERS += [(3, 1), (4, 1), (5, 1), (3, -1), (4, 3), (5, -3)]
 
 
 class Heights(Script):

@@ -7,7 +7,9 @@ that reads back as it, and every satisfying assignment reads back as such a choi
 from itertools import product
 from math import prod
 
+# Eq, Ne, Ge, Le, Lt, Gt by their ordinary meaning
 OPERATIONS = [lambda n: n == 0, lambda n: n != 0, lambda n: n >= 0]
+OPERATIONS += [lambda n: n <= 0, lambda n: n < 0, lambda n: n > 0]
 
 
 class Book:

@@ -10,6 +10,7 @@ from itertools import accumulate
 import checks
 from heights import MAX_HEIGHT, linear_reached, mul_reached
 from job import BITS, MAX_STORE, MAX_VARIABLES, Job, Setting, well_formed
+from turned import turned_terms
 
 
 @dataclass
@@ -111,6 +112,7 @@ class Calls:
         reached = linear_reached(op, constant, pairs, self.bound)
         if reached.too_high():
             return Answer(13, reached=reached)
+        op, constant, terms = turned_terms(op, constant, terms)
         return self.add("linear", [op, constant, *terms], reached)
 
     def mul(self, x, y, m):

@@ -1,12 +1,12 @@
 """Refusals that arguments alone decide, each in the order of its checks; 0 is none."""
 
 from job import MAX_SETTINGS, MAX_SWITCHES, has_code, is_value
+from turned import OPERATIONS
 
 MAX_LIST = 64
 MAX_TERMS = 6
 MAX_COEFFICIENT = 255
 MAX_CONSTANT = 1_000_000
-OPERATIONS = 3
 
 
 def strictly_rising(numbers):
@@ -53,7 +53,7 @@ def check_binary(job, cond, v_false, v_true):
 
 def check_linear(job, op, constant, terms):
     """Terms are one flat list: setting, coefficient, setting, coefficient, ..."""
-    if op >= OPERATIONS:
+    if op not in OPERATIONS:
         return 12
     if len(terms) > 2 * MAX_TERMS or len(terms) % 2 == 1:
         return 9

@@ -8,6 +8,7 @@ import jobfile
 from jobfiles import MOST, changed, field, padded, raw, starts
 from mistakes import MISTAKES
 from selfcheck import EXAMPLE
+from turned import GE, GT, LE, LT
 
 OPEN = field("open", 1)
 SMALL = [OPEN, field("range", 0, 9), field("binary", 1, 2, 5), field("list", 1, 4, 6)]
@@ -17,6 +18,13 @@ SHEET = [
     field("linear", 1, -7, 0, 1, 2, 1),
     field("linear", 0, 3, 0, -2, 1, 1, 2, 3),
     field("mul", 1, 1, 0),
+]
+# at most, below, above
+OTHERS = [
+    *SMALL,
+    field("linear", LE, -13, 0, 1, 1, 1),
+    field("linear", LT, -1, 0, -1, 1, 1),
+    field("linear", GT, -4, 0, 1, 2, -1),
 ]
 
 
@@ -34,13 +42,13 @@ BOUNDS = {
     "range": [(-4095, 0), (-4095, 1), (5, 4), (0, 4095), (0, 4096), (-32768, 32767), (-1, -1)],
     "list": [(0,), (3, 3), (4, 3), (4096,), (-4095, 1), (-1, 5), range(64), range(65)],
     "binary": [(2, 0, 1), (65535, 0, 1), (0, 1, 1), (0, 2, 1), (0, 4096, 0), (1, -4095, 1)],
-    "linear": [(3, 0), (255, 0), (0, 0, *of_first(7, 1)), (0, 0, 255, 1), (0, 0, 1, 1, 1, 1)],
+    "linear": [(6, 0), (255, 0), (0, 0, *of_first(7, 1)), (0, 0, 255, 1), (0, 0, 1, 1, 1, 1)],
     "mul": [(3, 0, 0), (0, 255, 0), (0, 0, 3)],
 }
 
 
 def examples():
-    return [EXAMPLE, file(*SHEET), file(*SMALL)]
+    return [EXAMPLE, file(*SHEET), file(*SMALL), file(*OTHERS)]
 
 
 def empty_lists():
@@ -105,7 +113,8 @@ def refusals():
     for coefficient in (0, 255, 256, -255, -256, 32767, -32768):
         yield file(*SMALL, field("linear", 0, 1, 0, coefficient))
     for constant in (1_000_000, 1_000_001, -1_000_000, -1_000_001, 2**31 - 1, -(2**31)):
-        yield file(*SMALL, field("linear", 2, constant, 0, 1))
+        for op in (GE, LE, LT, GT):
+            yield file(*SMALL, field("linear", op, constant, 0, 1))
     yield from (file(OPEN, *[field("range", 0, 1)] * count) for count in (32, 33))
 
 

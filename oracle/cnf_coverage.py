@@ -5,12 +5,18 @@ from collections import Counter
 
 import jobfile
 from mistakes import told_apart
+from turned import NAMES
 
 
 def in_no_clause(calls):
     """The job's variables that stand in no clause, rising."""
     used = {lit // 2 for lit in calls.lits[: calls.job.literals]}
     return [variable for variable in range(calls.job.variables) if variable not in used]
+
+
+def field_name(word, numbers):
+    """What an accepted field is counted as; a sum by its operation."""
+    return f"linear {NAMES[numbers[0]]}" if word == "linear" else word
 
 
 class Counted:
@@ -36,7 +42,7 @@ class Counted:
         accepted = not text.startswith(b"refused")
         self.files[name, "accepted" if accepted else "refused"] += 1
         if accepted:
-            self.fields.update(word for word, _ in jobfile.fields(data))
+            self.fields.update(field_name(*field) for field in jobfile.fields(data))
             self.count_free(calls)
         else:
             self.refusals[int(text.split()[2])] += 1

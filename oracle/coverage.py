@@ -3,8 +3,8 @@
 from collections import Counter
 
 from script import Script
+from turned import NAMES
 
-OPERATIONS = ("Eq", "Ne", "Ge")
 TALL = (11, 12)
 LONG = (30, 60, 120)
 COINCIDING = {(0, 0, 2): "x = y", (0, 1, 0): "x = m", (0, 1, 1): "y = m", (0, 0, 0): "x = y = m"}
@@ -65,7 +65,7 @@ def common_endings(kind, answer):
 
 def sum_endings(given, answer):
     """What an accepted sum is counted as."""
-    operation = OPERATIONS[given[0]]
+    operation = NAMES[given[0]]
     yield from common_endings(operation, answer)
     if answer.reached.dead:
         yield f"dead end at column {len(answer.reached.heights) - 1}"

@@ -18,6 +18,7 @@ from driver import Driver
 from judge import add_driver_option
 from script import Script, parse
 from scripts import Generator
+from turned import NAMES
 
 HERE = pathlib.Path(__file__).resolve().parent
 KINDS = {
@@ -27,12 +28,17 @@ KINDS = {
     "eq": "eq",
     "ne": "ne",
     "ge": "ge",
+    "le": "le",
+    "lt": "lt",
+    "gt": "gt",
     "plain": "plain",
     "shifted": "shifted",
     "same": "same",
     "dead": "dead",
     "heights": "heights",
 }
+OPERATIONS = [name.lower() for name in NAMES]
+TURNED = "(t .op) (t .constant) (t .terms)"
 PER_FILE = 100
 HEAD = """-- Definitions against the judge.
 use mathlib.Core.List.{List, [], _∷_}
@@ -43,7 +49,8 @@ use lib.ListN.{getD}
 use Rattle.sat.specs.Encoded.{EncodedRule}
 use Rattle.sat.specs.Lit.{neg}
 use Rattle.norm_csp.specs.Domain.{binary, list, range}
-use Rattle.norm_csp.specs.Rules.{LinearTerm, eq, ge, ne}
+use Rattle.norm_csp.specs.Rules.{LinearTerm, eq, ge, gt, le, lt, ne}
+use Rattle.norm_csp.specs.Turned.{LinearLit, turned}
 use Rattle.log_encoding.specs.EncodeVarLog.{EncodedVar, encode-var-log}
 use Rattle.log_encoding.specs.LogEncoding.{LogEncoding, no-encoding}
 use Rattle.log_encoding.specs.Enumerate.{bounded, enumerate}
@@ -53,11 +60,9 @@ use Rattle.log_encoding.specs.EncodeLinearLog.{encode-linear-log}
 use Rattle.log_encoding.specs.EncodeMulLog.{encode-mul-log}
 use mathlib.Core.Bool.{cond}
 use lib.Dec.{ltb}
-use Rattle.arithmetic.specs.Integers.{down, up}
 use Rattle.log_encoding.specs.AdderSize.{Reached, height}
 use Rattle.log_encoding.specs.VarSize.{setting-shape}
-use Rattle.log_encoding.specs.EncodeLinearLog.{offset-constant}
-use Rattle.log_encoding.specs.LinearSize.{linear-reached, term-shapes}
+use Rattle.log_encoding.specs.LinearSize.{linear-log-reached}
 use Rattle.log_encoding.specs.MulSize.{mul-reached}
 
 -- heights up to the first above 12
@@ -101,16 +106,15 @@ def expression(word, ints, settings, variables):
     if word == "mul":
         x, y, m = ints
         return f"encode-mul-log {int_map(settings)} {x} {y} {m} {variables}", "EncodedRule"
-    op, terms = sum_of(ints)
-    call = f"encode-linear-log {int_map(settings)} {op} {integer(ints[1])} {terms} {variables}"
-    return call, "EncodedRule"
+    call = f"encode-linear-log {int_map(settings)} {TURNED} {variables}"
+    return f"let t = {turned_sum(ints)} in {call}", "EncodedRule"
 
 
-def sum_of(ints):
-    """Operation and terms of a sum."""
+def turned_sum(ints):
+    """A sum, turned by definition."""
     terms = zip(ints[2::2], ints[3::2])
     records = (f"record {{ var = {v}; coef = {integer(c)} }}" for v, c in terms)
-    return ("eq", "ne", "ge")[ints[0]], listed(records)
+    return f"turned {OPERATIONS[ints[0]]} {integer(ints[1])} {listed(records)}"
 
 
 def heights(word, ints, settings):
@@ -119,10 +123,8 @@ def heights(word, ints, settings):
     if word == "mul":
         shapes = " ".join(f"(setting-shape (getD {known} {i} no-encoding))" for i in ints)
         return f"tested (mul-reached {shapes})"
-    op, terms = sum_of(ints)
-    constant = f"(offset-constant {int_map(settings)} {integer(ints[1])} {terms})"
-    shapes = f"(term-shapes (λ i. setting-shape (getD {known} i no-encoding)) {terms})"
-    return f"tested (linear-reached {op} {shapes} (up {constant}) (down {constant}))"
+    shapes = f"(λ i. setting-shape (getD {known} i no-encoding))"
+    return f"let t = {turned_sum(ints)} in tested (linear-log-reached {shapes} {TURNED})"
 
 
 def answer(word, made, clauses, variables):
@@ -140,7 +142,7 @@ def kinds_of(call, script_kind):
     if word == "mul":
         return {script_kind}
     if word == "linear":
-        return {("eq", "ne", "ge")[ints[0]]} | ({"dead"} if told.reached.dead else set())
+        return {OPERATIONS[ints[0]]} | ({"dead"} if told.reached.dead else set())
     return {word}
 
 

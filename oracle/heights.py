@@ -6,8 +6,9 @@ plus the carry literals that come in; the constant's bit does not count.
 
 from dataclasses import dataclass, field
 
+from turned import EQ, turned
+
 MAX_HEIGHT = 12
-EQ = 0
 
 
 @dataclass
@@ -89,7 +90,9 @@ def walk_adder(reached, values, constant, columns):
 
 
 def linear_reached(op, constant, terms, bound=MAX_HEIGHT):
-    """Columns of a sum; terms are (setting, coefficient)."""
+    """Columns of a sum, turned; terms are (setting, coefficient)."""
+    op, constant, coefficients = turned(op, constant, [c for _, c in terms])
+    terms = [(setting, c) for (setting, _), c in zip(terms, coefficients)]
     for setting, coefficient in terms:
         constant += setting.offset * coefficient
     reached = Reached(bound)

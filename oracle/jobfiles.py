@@ -94,7 +94,7 @@ FAULTY = [
     field("list"),
     field("list", 3, 3),
     field("binary", 0, 1, 1),
-    field("linear", 3, 0),
+    field("linear", 6, 0),
     field("linear", 0, 0, 0, 1, 0, 1),
     field("linear", 0, 0, 0, 0),
     field("linear", 0, 1_000_001),

@@ -11,10 +11,11 @@ import arguments
 from job import BITS, SPARE, Job, Setting
 from replay_chapters import I32, U32, job_line, shown, with_record
 from script import MAX_STORES, Script, spaced
+from turned import EQ, GT, LE, LT
+from turned import OPERATIONS as EACH
 
 LARGE = spaced("stores", MAX_STORES)
 VARIABLES = 65_535
-EACH = range(3)
 
 
 def linear(op, constant, *terms):
@@ -87,7 +88,8 @@ def dead_ends(driver):
 def last_inequalities(driver):
     """Eq whose last column cannot reach what is left, from either side."""
     yield from exact(driver, "open 0", *(linear(0, c) for c in (0, 3, -3, 1_000_000, -1_000_000)))
-    yield from exact(driver, "open 0", *(linear(op, c) for op in (1, 2) for c in (0, 3, -3)))
+    others = [linear(op, c) for op in EACH[1:] for c in (0, 1, -1, 3, -3)]
+    yield from exact(driver, "open 0", *others)
     before = ["open 0", "range 0 1", "range 0 2"]
     rows = [(0, 1), (0, -1), (1, 1), (1, -1), (0, 1, 1, 1), (0, 1, 1, -1), (0, -1, 1, -1)]
     calls = [linear(0, c, *row) for row in rows for c in (0, -1, 1, 2, -2, 5, -5, 99, -99)]
@@ -126,6 +128,9 @@ HEIGHTS = [
     ((1, 2, 2, 2, 3), (-5, -7, -6, -2, -5), (3, -3)),
     ((4, 5, 2, 2, 4, 2), (3, 3, 2, 1, 3, 7), (15,)),
     ((4, 5, 2, 2, 4, 2), (-3, -3, -2, -1, -3, -7), (15, 1)),
+    # 12 or 13 by the 1 that Lt adds to the constant and Gt takes from it
+    ((3, 5, 4), (7, 7, 3), (64, -64)),
+    ((5, 3, 4), (7, 7, 5), (7,)),
 ]
 
 
@@ -148,7 +153,7 @@ SIX = [0, 1, 1, 1, 2, 1, 3, 1, 4, 1, 5, 1]
 # Each fault that a sum of these terms can have, in the order of the checks: 12, 9 twice, 8, 9
 # twice, 10 twice, 11, 13. Each makes operation, constant and terms of the right ones.
 FAULTS = [
-    lambda op, constant, terms: (3, constant, terms),
+    lambda op, constant, terms: (6, constant, terms),
     lambda op, constant, terms: (op, constant, terms[:-1]),
     lambda op, constant, terms: (op, constant, [*terms, 6, 1]),
     lambda op, constant, terms: (op, constant, [*terms[:10], 7, *terms[11:]]),
@@ -161,10 +166,10 @@ FAULTS = [
 ]
 
 
-def faulty():
+def faulty(operation):
     """Every fault alone, and every two; the first of them in order decides."""
     for picked in [*combinations(FAULTS, 1), *combinations(FAULTS, 2)]:
-        op, constant, terms = 0, 0, SIX
+        op, constant, terms = operation, 0, SIX
         for fault in reversed(picked):
             op, constant, terms = fault(op, constant, terms)
         yield linear(op, constant, *terms)
@@ -179,7 +184,7 @@ def orders():
     records = tuple(Setting((4 * i, 4 * i + 2, *[0] * 10), 2, 0, 3, 0) for i in range(7))
     plain = Job(0, 14, 0, 0, 7, (*records, *[SPARE] * 25))
     full = with_variables(plain, VARIABLES)
-    calls = [*faulty(), linear(0, 0, *SIX)]
+    calls = [*faulty(EQ), *faulty(LT), linear(0, 0, *SIX)]
     for job in (with_record(plain, 6, high=4), full, plain):
         yield from ["stores 0 1", job_line(job), *shown(*calls)]
     yield from ["stores 9 9", "lits 3 5", "ends 2 7", *shown(*calls)]
@@ -191,9 +196,9 @@ def refusals():
     yield from ["stores 9 9", "open 1", *["binary 0 0 1"] * 7, "show"]
     unknown = [-1, 7, 31, 32, 255, I32, -I32 - 1]
     yield from (linear(op, 0, n, 1) for op in EACH for n in unknown)
-    yield from (linear(op, 0, 0, 1) for op in (3, 4, 255, 256, 2**31, U32))
+    yield from (linear(op, 0, 0, 1) for op in (6, 7, 255, 256, 2**31, U32))
     yield from [linear(0, 0, 0), linear(2, 0, *[0] * 13), linear(1, 0, *[0] * 12)]
-    yield from [linear(0, 0, *[1] * 4_096), linear(3, 0, *[1] * 4_095)]
+    yield from [linear(0, 0, *[1] * 4_096), linear(6, 0, *[1] * 4_095)]
     # unknown settings that fall or repeat, then known ones whose coefficients are outside
     yield from [linear(0, 0, 7, 1, 6, 1), linear(0, 0, 8, 1, 8, 1), linear(0, 0, 1, 0, 1, 0)]
     yield from ["show", "open 3", *(linear(op, c) for op in EACH for c in (0, 1, -1)), "show"]
@@ -209,6 +214,10 @@ SMALL = [
     (["range 0 0"], linear(1, 0, 0, 1)),
     (["range 0 0"], linear(0, 0, 0, 1)),
     ([], linear(2, -1)),
+    (["range 0 3", "range -1 2"], linear(LE, -2, 0, 1, 1, 1)),
+    (["range 0 3", "binary 1 0 3"], linear(LT, -1, 0, 2, 1, -1)),
+    (["range -1 2"], linear(GT, 0, 0, 1)),
+    ([], linear(LT, 0)),
 ]
 
 

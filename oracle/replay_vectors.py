@@ -28,6 +28,7 @@ DIRECTORY = Path(__file__).resolve().parent.parent / "crates"
 
 RANDOM = {"settings": 150, "edges": 200, "space": 150, "forged": 110}
 RANDOM |= {"linear": 150, "eq": 100, "ne": 100, "ge": 100, "heights": 60, "dead": 150}
+RANDOM |= {"le": 60, "lt": 60, "gt": 60}
 RANDOM |= {"mul": 60, "shifted": 40, "same": 40}
 LONGEST = 2_000
 END = ["", "", "range 0 x", "show", "open 1"]

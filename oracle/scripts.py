@@ -6,7 +6,7 @@ With --show, every job ends in `show`, so that all records and entries are compa
   mixed     every call, mostly accepted ones, long runs on one job
   long      every call, low columns, 150 lines on one job: the table is filled and rules go on
   settings  ranges, lists, two values, with readings and clauses
-  linear    sums;  eq, ne, ge one operation only
+  linear    sums;  eq, ne, ge, le, lt, gt one operation only
   mul       products;  plain without offsets, shifted with offsets
   same      products whose x, y, m coincide
   heights   sums and products that reach a column of height 11 to 13
@@ -27,6 +27,7 @@ from badlines import BAD_LINES
 from driver import Driver
 from judge import add_driver_option
 from script import BadLine, Script, spaced
+from turned import EQ, GE, GT, LE, LT, NE, OPERATIONS
 
 LARGE = (524_288, 131_072)
 SHOWN = 3_000
@@ -42,6 +43,9 @@ WEIGHTS = {
     "eq": dict(linear=1),
     "ne": dict(linear=1),
     "ge": dict(linear=1),
+    "le": dict(linear=1),
+    "lt": dict(linear=1),
+    "gt": dict(linear=1),
     "mul": dict(mul=12, read=1, clause=1),
     "plain": dict(mul=1),
     "shifted": dict(mul=1),
@@ -56,7 +60,7 @@ WEIGHTS = {
     ),
     "bad": dict(range=1, linear=1, mul=1, read=1, clause=1),
 }
-OPERATIONS = {"eq": (0,), "ne": (1,), "ge": (2,), "dead": (0,)}
+ONLY = {"eq": EQ, "ne": NE, "ge": GE, "le": LE, "lt": LT, "gt": GT, "dead": EQ}
 
 
 class Generator:
@@ -139,7 +143,7 @@ class Generator:
     def call_linear(self):
         rng, job = self.rng, self.job
         if self.script.calls.malformed():
-            return self.put("linear", rng.randrange(4), 0, 0, 1)
+            return self.put("linear", rng.randrange(7), 0, 0, 1)
         least = rng.choice([0, 1, 2, 4])
         wanted = {
             "heights": lambda reached: 11 <= reached.greatest() <= 13,
@@ -148,7 +152,7 @@ class Generator:
             "long": lambda reached: reached.greatest() <= 6,
             "small": lambda reached: reached.greatest() <= 4,
         }.get(self.kind, lambda reached: reached.greatest() <= rng.choice([6, 9, 11, 12, 30]))
-        ops = OPERATIONS.get(self.kind, (0, 1, 2))
+        ops = [ONLY[self.kind]] if self.kind in ONLY else OPERATIONS
         sparse = self.kind == "dead" and rng.random() < 0.8
         draw = arguments.sparse_coefficient if sparse else arguments.coefficient
         op, constant, flat = arguments.sought_linear(rng, job, wanted, ops, draw)

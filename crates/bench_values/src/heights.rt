@@ -5,7 +5,7 @@ use encoder_env::EncoderEnv;
 use encoder_env::well_formed;
 use encoder_linear::argument_status;
 use log_product::mul_height;
-use log_sum::linear_height;
+use log_turned::turned_height;
 
 // Of a sum: 0 where it is refused before 13 is tested.
 pub fn sum_height(
@@ -23,7 +23,7 @@ pub fn sum_height(
         return 0;
     }
     let encodings = env.encodings;
-    linear_height(encodings, op, constant, terms)
+    turned_height(encodings, op, constant, terms)
 }
 
 // Of a product: 0 where it is refused before 13 is tested.

@@ -12,7 +12,7 @@ use Rattle.sat.specs.Encodes.{Agree}
 use Rattle.sat.proofs.Clauses.{sat-both}
 use Rattle.sat.proofs.Extend.{agree-less, agree-trans, clauses-below-append, clauses-below-more, sat-agree}
 use Rattle.norm_csp.specs.NormCsp.{Constraint, Holds, NormCsp, Satisfied, add-constraint, linear, mul}
-use Rattle.norm_csp.specs.Rules.{LinearTerm, op-of, terms-of}
+use Rattle.norm_csp.specs.Rules.{LinearTerm, cmp-op-of, terms-of}
 use Rattle.norm_csp.proofs.NormCsp.{KnownConstraint, KnownTerms, holds-same, rule-known, rule-less, rule-more}
 use Rattle.encoder_answer.specs.Adding.{adding, grown}
 use Rattle.encoder_answer.specs.Encoded.{number}
@@ -82,10 +82,10 @@ known-terms n (t ∷ ts) h = (h .0 .setting, known-terms n ts (h .1))
 
 pub sum-kept : (s : State) (b : NormCsp) (cs : Clauses) → Invariant s b cs → (op : ℕ) (constant : ℤ) (terms : List ℤ)
     → (let o = linear-outcome (s .env) (s .lits) (s .ends) op constant terms in
-    o .status ≡ 0 → (ds : Clauses) × Invariant (left o) (add-constraint (linear (op-of op) constant (terms-of terms)) b) ds)
+    o .status ≡ 0 → (ds : Clauses) × Invariant (left o) (add-constraint (linear (cmp-op-of op) constant (terms-of terms)) b) ds)
 sum-kept s b cs inv op constant terms h =
     let (had, a) = sum-added (s .env) (s .lits) (s .ends) op constant terms h in
-    rule-kept s b cs inv (linear (op-of op) constant (terms-of terms)) _ (sum-encoded (s .env) op constant terms) a
+    rule-kept s b cs inv (linear (cmp-op-of op) constant (terms-of terms)) _ (sum-encoded (s .env) op constant terms) a
     (subst (λ (n : ℕ). KnownTerms n (terms-of terms)) (inv .count) (known-terms (s .env .count) (terms-of terms) (had .terms-are)))
 
 pub product-kept : (s : State) (b : NormCsp) (cs : Clauses) → Invariant s b cs → (x y m : ℕ)

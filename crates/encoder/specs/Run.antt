@@ -6,7 +6,7 @@ use mathlib.Core.Bool.{cond}
 use mathlib.Core.List.{List, [], _∷_}
 use Rattle.norm_csp.specs.Domain.{binary, list, range}
 use Rattle.norm_csp.specs.NormCsp.{NormCsp, add-constraint, add-var, linear, mul}
-use Rattle.norm_csp.specs.Rules.{op-of, terms-of}
+use Rattle.norm_csp.specs.Rules.{cmp-op-of, terms-of}
 use Rattle.encoder_env.specs.declared.EncoderEnv.{EncoderEnv}
 use Rattle.encoder_read.specs.Calls.{clause-outcome, read-outcome}
 use Rattle.encoder_var.specs.Settings.{setting-outcome}
@@ -68,7 +68,7 @@ abbrev pub enter : Call → NormCsp → NormCsp
 enter (encode-range low high) b = add-var (range low high) b
 enter (encode-list ks) b = add-var (list ks) b
 enter (encode-binary c f t) b = add-var (binary c f t) b
-enter (encode-linear op constant terms) b = add-constraint (linear (op-of op) constant (terms-of terms)) b
+enter (encode-linear op constant terms) b = add-constraint (linear (cmp-op-of op) constant (terms-of terms)) b
 enter (encode-mul x y m) b = add-constraint (mul x y m) b
 enter (get-int-value x assignment) b = b
 enter (clause k) b = b

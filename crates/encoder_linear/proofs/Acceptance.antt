@@ -5,7 +5,7 @@ use mathlib.Core.List.{List}
 use mathlib.Core.Logic.{Iff·trans, _↔_}
 use Prim.Native.Nat.{_%_, _+_, _-_, _<_, _≤_, ℕ}
 use native.Mathlib.Omega.{arith}
-use lib.Dec.{eqb, leb, ltb}
+use lib.Dec.{eqb, leb}
 use lib.IntN.{negsuc, pos, ℤ}
 use lib.ListN.{length}
 use lib.Signed.{_<ℤ_, ltZ}
@@ -21,7 +21,7 @@ use Rattle.encoder_answer.specs.Adding.{grown}
 use Rattle.encoder_answer.specs.Outcome.{status-of}
 use Rattle.encoder_answer.proofs.Acceptance.{adding-is, check-is, last-is}
 use Rattle.encoder_linear.specs.Accepted.{CoefBounds, ConstantBounds, Known, SumAccepted}
-use Rattle.encoder_linear.specs.Sums.{coef-at, coef-fits, coefs-fit, constant-fits, linear-checks, linear-outcome, setting-at, setting-known, settings-known, settings-rise, sum-encoded, sum-reached, term-count, terms-paired}
+use Rattle.encoder_linear.specs.Sums.{coef-at, coef-fits, coefs-fit, constant-fits, linear-checks, linear-outcome, operation-known, setting-at, setting-known, settings-known, settings-rise, sum-encoded, sum-reached, term-count, terms-paired}
 use Rattle.encoder_linear.proofs.Added.{numbered}
 
 known-is : (count : ℕ) (x : ℤ) → (setting-known count x ≡ true) ↔ Known count x
@@ -59,20 +59,20 @@ module _ (env : EncoderEnv) (lits ends : List ℕ) (op : ℕ) (constant : ℤ) (
   abbrev out : EncodedRule
   out = sum-encoded env op constant terms
 
-  operation-is : (ltb op 3 ≡ true) ↔ (op ≤ 2)
-  operation-is = Iff·trans (ltb-is op 3) (λ h. omega (arith, h), λ h. omega (arith, h))
+  operation-is : (operation-known op ≡ true) ↔ (op ≤ 5)
+  operation-is = Iff·trans (ltb-is op 6) (λ h. omega (arith, h), λ h. omega (arith, h))
 
   heights-are : (not (too-tall (sum-reached env op constant terms)) ≡ true) ↔ HeightsWithin (sum-reached env op constant terms)
   heights-are = Iff·trans (false-is (too-tall (sum-reached env op constant terms))) (heights-within (sum-reached env op constant terms))
 
   checked : (status-of (linear-checks env (length lits) (length ends) op constant terms) ≡ 0)
-      ↔ (WellFormed env (length lits) (length ends) × ((op ≤ 2) × (((length terms ≤ 12) × (length terms % 2 ≡ 0))
+      ↔ (WellFormed env (length lits) (length ends) × ((op ≤ 5) × (((length terms ≤ 12) × (length terms % 2 ≡ 0))
       × (((i : ℕ) → i < term-count terms → Known (env .count) (setting-at terms i))
       × (((i : ℕ) → i + 1 < term-count terms → setting-at terms i <ℤ setting-at terms (i + 1))
       × (((i : ℕ) → i < term-count terms → CoefBounds (coef-at terms i)) × (ConstantBounds constant × HeightsWithin (sum-reached env op constant terms))))))))
   checked =
       check-is (well-formed env (length lits) (length ends)) _ 0 (well-formed-is env (length lits) (length ends))
-      (check-is (ltb op 3) _ 11 operation-is
+      (check-is (operation-known op) _ 11 operation-is
       (check-is (terms-paired terms) _ 8 (paired-is terms)
       (check-is (settings-known (env .count) terms) _ 7 (settings-are terms (env .count))
       (check-is (settings-rise terms) _ 8 (rising-is terms)

@@ -4,7 +4,7 @@ use mathlib.Core.Bool.{_&&_, false, not, true}
 use mathlib.Core.List.{List, [], _∷_}
 use Prim.Native.Nat.{_%_, _*_, _+_, _<_, _≤_, suc, ℕ}
 use native.Mathlib.Omega.{arith}
-use lib.Dec.{eqb, leb, lit<, ltb}
+use lib.Dec.{eqb, leb, lit<}
 use lib.IntN.{_*ℤ_, _+ℤ_, negsuc, pos, ℤ}
 use lib.ListN.{length}
 use lib.Signed.{ltZ}
@@ -13,10 +13,11 @@ use Rattle.arithmetic.specs.Integers.{down, up}
 use Rattle.arithmetic.proofs.Integers.{apart-read, less-read}
 use Rattle.sat.specs.Clause.{Assignment}
 use Rattle.sat.specs.Encodes.{Agree, Any, Encodes}
-use Rattle.norm_csp.specs.Rules.{Compares, LinearHolds, LinearTerm, linear-sum, op-of, terms-of}
+use Rattle.norm_csp.specs.Rules.{Compares, LinearHolds, LinearTerm, cmp-op-of, linear-sum, terms-of}
 use Rattle.log_encoding.specs.AdderSize.{too-tall}
 use Rattle.log_encoding.specs.EncodeLinearLog.{TermsBelow}
-use Rattle.log_encoding.proofs.EncodeLinearLog.{InBounds, encode-linear-log-encodes, offset-constant-small}
+use Rattle.log_encoding.proofs.EncodeLinearLog.{InBounds}
+use Rattle.log_encoding.proofs.Turned.{encode-turned-encodes}
 use Rattle.encoder_env.specs.declared.EncoderEnv.{EncoderEnv}
 use Rattle.encoder_env.specs.WellFormed.{eqz, int-map, lez, well-formed}
 use Rattle.encoder_env.proofs.Kept.{Kept, all-at, in-use, kept}
@@ -26,7 +27,7 @@ use Rattle.encoder_answer.specs.Adding.{grown}
 use Rattle.encoder_linear.specs.Encoded.{LinearEncodes, LinearExact}
 use Rattle.encoder_answer.specs.Encoded.{RuleEncodes, RuleExact, number}
 use Rattle.encoder_answer.specs.Outcome.{Check, check, status-of}
-use Rattle.encoder_linear.specs.Sums.{argument-checks, coef-at, coef-fits, coefs-fit, constant-fits, linear-checks, linear-outcome, setting-at, setting-known, settings-known, settings-rise, sum-encoded, sum-reached, term-count, terms-paired}
+use Rattle.encoder_linear.specs.Sums.{argument-checks, coef-at, coef-fits, coefs-fit, constant-fits, linear-checks, linear-outcome, operation-known, setting-at, setting-known, settings-known, settings-rise, sum-encoded, sum-reached, term-count, terms-paired}
 use Rattle.encoder_answer.proofs.Adding.{RuleAdded, known, number-same, rule-encodes, rule-exact}
 use Rattle.encoder_answer.proofs.Statuses.{Numbered, both-lists, passed}
 
@@ -86,7 +87,7 @@ few-terms (x ∷ k ∷ terms) = omega (arith, few-terms terms)
 module _ (env : EncoderEnv) (lits ends op : ℕ) (constant : ℤ) (terms : List ℤ) where
   pub record ArgumentsKnown : Type 0 where
     pub holds : Kept env lits ends
-    pub op-known : op < 3
+    pub op-known : op < 6
     pub few : length terms ≤ 12
     pub settings : settings-known (env .count) terms ≡ true
     pub coefs : coefs-fit terms ≡ true
@@ -95,7 +96,7 @@ module _ (env : EncoderEnv) (lits ends op : ℕ) (constant : ℤ) (terms : List 
   pub arguments-known : status-of (argument-checks env lits ends op constant terms) ≡ 0 → ArgumentsKnown
   arguments-known h =
       let w = passed (well-formed env lits ends) _ 0 h in
-      let o = passed (ltb op 3) _ 11 (w .1) in
+      let o = passed (operation-known op) _ 11 (w .1) in
       let p = passed (terms-paired terms) _ 8 (o .1) in
       let s = passed (settings-known (env .count) terms) _ 7 (p .1) in
       let r = passed (settings-rise terms) _ 8 (s .1) in
@@ -104,7 +105,7 @@ module _ (env : EncoderEnv) (lits ends op : ℕ) (constant : ℤ) (terms : List 
       let b = both (lez (negsuc 999999) constant) (lez constant (pos 1000000)) (k .0) in
       record {
         holds = kept env lits ends (w .0);
-        op-known = ltb-true op 3 (o .0);
+        op-known = ltb-true op 6 (o .0);
         few = leb-true (length terms) 12 (both (leb (length terms) 12) (eqb (length terms % 2) 0) (p .0) .0);
         settings = s .0;
         coefs = c .0;
@@ -152,20 +153,18 @@ module _ (env : EncoderEnv) (lits ends op : ℕ) (constant : ℤ) (terms : List 
 
   pub sum-encodes : SumKnown
       → (let out = sum-encoded env op constant terms in
-      Encodes (env .variables) (out .vars) Any (λ α. LinearHolds (number env α) (op-of op) constant (terms-of terms)) (out .clauses))
+      Encodes (env .variables) (out .vars) Any (λ α. LinearHolds (number env α) (cmp-op-of op) constant (terms-of terms)) (out .clauses))
   sum-encodes s =
       let ts = terms-of terms in
       let a = s .arguments in
-      let small = offset-constant-small (int-map env) constant ts (in-bounds (a .holds) ts (s .terms-are)) in
-      let n = few-terms terms in
-      encode-linear-log-encodes (int-map env) constant (op-of op) ts (env .variables) (below (a .holds) ts (s .terms-are))
-      (omega (arith, small .0, a .constant-small, a .few)) (omega (arith, small .1, a .constant-small, a .few))
+      encode-turned-encodes (int-map env) (cmp-op-of op) constant ts (env .variables) (below (a .holds) ts (s .terms-are))
+      (in-bounds (a .holds) ts (s .terms-are)) (omega (arith, few-terms terms, a .constant-small, a .few))
 
 -- An accepted sum ----------------------------------------------------------------------------------------------------
 
 module _ (env : EncoderEnv) (lits ends : List ℕ) (op : ℕ) (constant : ℤ) (terms : List ℤ) where
   abbrev Rule : Assignment → Type 0
-  Rule α = LinearHolds (number env α) (op-of op) constant (terms-of terms)
+  Rule α = LinearHolds (number env α) (cmp-op-of op) constant (terms-of terms)
 
   abbrev checks : List Check
   checks = linear-checks env (length lits) (length ends) op constant terms
@@ -186,7 +185,7 @@ module _ (env : EncoderEnv) (lits ends : List ℕ) (op : ℕ) (constant : ℤ) (
       let (s, a) = sum-added h in
       rule-exact checks env lits ends (sum-encoded env op constant terms) Rule a
       (λ α β g r.
-      subst (Compares (op-of op)) (sym (sum-same env (length lits) (length ends) op constant terms (a .holds) α β g (terms-of terms) (s .terms-are))) r)
+      subst (Compares (cmp-op-of op)) (sym (sum-same env (length lits) (length ends) op constant terms (a .holds) α β g (terms-of terms) (s .terms-are))) r)
       h
 
 pub linear-encodes : LinearEncodes

@@ -26,11 +26,11 @@ pub record ConstantBounds (k : ℤ) : Type 0 where
   pub least : negsuc 999999 ≤ℤ k
   pub most : k ≤ℤ pos 1000000
 
--- a well-formed job; operation 0, 1 or 2; at most six terms, each with its coefficient; known settings, strictly rising; coefficients and
+-- a well-formed job; an operation from 0 to 5; at most six terms, each with its coefficient; known settings, strictly rising; coefficients and
 -- constant within bounds; a height of at most 12 in every column reached; and space
 pub record SumAccepted (env : EncoderEnv) (lits ends op : ℕ) (constant : ℤ) (terms : List ℤ) : Type 0 where
   pub job : WellFormed env lits ends
-  pub operation : op ≤ 2
+  pub operation : op ≤ 5
   pub six : length terms ≤ 12
   pub paired : length terms % 2 ≡ 0
   pub settings : (i : ℕ) → i < term-count terms → Known (env .count) (setting-at terms i)

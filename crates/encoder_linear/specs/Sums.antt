@@ -7,11 +7,10 @@ use lib.Signed.{ltZ}
 use mathlib.Core.Bool.{Bool, _&&_, not}
 use mathlib.Core.List.{List, [], _++_, _∷_}
 use Rattle.sat.specs.Encoded.{EncodedRule}
-use Rattle.norm_csp.specs.Rules.{op-of, terms-of}
+use Rattle.norm_csp.specs.Rules.{cmp-op-of, terms-of}
 use Rattle.log_encoding.specs.VarSize.{setting-shape}
 use Rattle.log_encoding.specs.AdderSize.{Reached, too-tall}
-use Rattle.log_encoding.specs.EncodeLinearLog.{encode-linear-log}
-use Rattle.log_encoding.specs.LinearSize.{linear-log-reached}
+use Rattle.log_encoding.specs.Turned.{encode-turned, turned-reached}
 use Rattle.encoder_env.specs.declared.EncoderEnv.{EncoderEnv}
 use Rattle.encoder_env.specs.WellFormed.{all-below, eqz, int-map, lez, well-formed}
 use Rattle.encoder_answer.specs.Adding.{adding, adding-status, grown}
@@ -54,18 +53,22 @@ coefs-fit terms = all-below (term-count terms) (λ i. coef-fits (coef-at terms i
 abbrev pub constant-fits : ℤ → Bool
 constant-fits k = lez (negsuc 999999) k && lez k (pos 1000000)
 
+-- one of the operations 0 to 5
+abbrev pub operation-known : ℕ → Bool
+operation-known op = ltb op 6
+
 -- The outcome --------------------------------------------------------------------------------------------------------
 
--- the columns reached, over the bit counts and offsets of the settings
+-- the columns that the turned sum reaches, over the bit counts and offsets of the settings
 abbrev pub sum-reached : EncoderEnv → ℕ → ℤ → List ℤ → List Reached
-sum-reached env op constant terms = linear-log-reached (λ i. setting-shape (int-map env i)) (op-of op) constant (terms-of terms)
+sum-reached env op constant terms = turned-reached (λ i. setting-shape (int-map env i)) (cmp-op-of op) constant (terms-of terms)
 
 -- 12 operation unknown; 9 over six terms, or a setting lacking its coefficient; 8 a setting unknown; 9 not strictly rising;
 -- 10 coefficient zero or outside; 11 constant outside
 abbrev pub argument-checks : EncoderEnv → ℕ → ℕ → ℕ → ℤ → List ℤ → List Check
 argument-checks env lits ends op constant terms =
     check (well-formed env lits ends) 1
-    ∷ check (ltb op 3) 12
+    ∷ check (operation-known op) 12
     ∷ check (terms-paired terms) 9
     ∷ check (settings-known (env .count) terms) 8
     ∷ check (settings-rise terms) 9
@@ -78,9 +81,9 @@ abbrev pub linear-checks : EncoderEnv → ℕ → ℕ → ℕ → ℤ → List �
 linear-checks env lits ends op constant terms =
     argument-checks env lits ends op constant terms ++ (check (not (too-tall (sum-reached env op constant terms))) 13 ∷ [])
 
--- the clauses of `encode-linear-log` and the variable count after them
+-- the clauses of the turned sum and the variable count after them
 abbrev pub sum-encoded : EncoderEnv → ℕ → ℤ → List ℤ → EncodedRule
-sum-encoded env op constant terms = encode-linear-log (int-map env) (op-of op) constant (terms-of terms) (env .variables)
+sum-encoded env op constant terms = encode-turned (int-map env) (cmp-op-of op) constant (terms-of terms) (env .variables)
 
 -- the number of all checks
 abbrev pub linear-status : EncoderEnv → ℕ → ℕ → ℕ → ℤ → List ℤ → ℕ

@@ -13,8 +13,8 @@ use encoder_answer::space_status;
 use encoder_env::EncoderEnv;
 use encoder_env::well_formed;
 use log_linear::RuleCounts;
-use log_sum::encode_linear_log;
-use log_sum::linear_height;
+use log_turned::encode_turned;
+use log_turned::turned_height;
 
 // Whether no setting lacks its coefficient, and there are at most six terms.
 fn terms_paired(terms: &[i32]) -> bool
@@ -129,7 +129,7 @@ pub fn argument_status(
     if !well_formed(env, lits, ends) {
         return 1;
     }
-    if 3 <= op {
+    if 6 <= op {
         return 12;
     }
     if !terms_paired(terms) {
@@ -166,7 +166,7 @@ fn linear_checks(
         return status;
     }
     let encodings = env.encodings;
-    if 12 < linear_height(encodings, op, constant, terms) {
+    if 12 < turned_height(encodings, op, constant, terms) {
         return 13;
     }
     0
@@ -180,7 +180,7 @@ fn linear_size(env: EncoderEnv, op: u32, constant: i32, terms: &[i32], at: Count
     let mut lits = [0u32; 0];
     let mut ends = [0u32; 0];
     let encodings = env.encodings;
-    encode_linear_log(
+    encode_turned(
         &mut lits,
         &mut ends,
         encodings,
@@ -212,8 +212,8 @@ fn linear_status(
     space_status(size.vars, size.used, lits, ends)
 }
 
-// A rule: the constant plus every coefficient times its setting is 0 (operation 0), not 0 (1), at least 0 (2). The terms are one list:
-// setting, coefficient, in turn.
+// A rule: the constant plus every coefficient times its setting is 0 (operation 0), not 0 (1), at least 0 (2), at most 0 (3), below 0 (4),
+// above 0 (5). The terms are one list: setting, coefficient, in turn.
 pub fn encode_linear(
     env: EncoderEnv,
     lits: &mut [u32],
@@ -230,7 +230,7 @@ pub fn encode_linear(
     }
     let at = counts_of(env);
     let encodings = env.encodings;
-    let new = encode_linear_log(
+    let new = encode_turned(
         lits,
         ends,
         encodings,

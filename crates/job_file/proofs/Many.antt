@@ -1,6 +1,5 @@
 -- More values or terms than a call takes are refused whatever they are (`many-values`, `many-terms`).
 use Prim.Native.Nat.{_<_, ℕ}
-use lib.Dec.{ltb}
 use lib.IntN.{ℤ}
 use lib.ListN.{length}
 use mathlib.Core.Bool.{Bool, cond, false, true}
@@ -13,7 +12,7 @@ use Rattle.encoder_env.specs.declared.EncoderEnv.{EncoderEnv}
 use Rattle.encoder_env.specs.WellFormed.{well-formed}
 use Rattle.encoder_answer.specs.Outcome.{refused}
 use Rattle.encoder_answer.proofs.Statuses.{settled-refused}
-use Rattle.encoder_linear.specs.Sums.{linear-outcome, linear-status}
+use Rattle.encoder_linear.specs.Sums.{linear-outcome, linear-status, operation-known}
 use Rattle.encoder_var.specs.Settings.{setting-outcome, setting-status}
 
 module _ (env : EncoderEnv) (lits ends : List ℕ) where
@@ -38,10 +37,10 @@ module _ (env : EncoderEnv) (lits ends : List ℕ) where
   sum-number false b h = absurd (omega arith)
 
   module _ (op : ℕ) (constant : ℤ) where
-    sum-refused : (ts : List ℤ) → 12 < length ts → linear-outcome env lits ends op constant ts ≡ refused (cond well (cond (ltb op 3) 9 12) 1) env lits ends
+    sum-refused : (ts : List ℤ) → 12 < length ts → linear-outcome env lits ends op constant ts ≡ refused (cond well (cond (operation-known op) 9 12) 1) env lits ends
     sum-refused ts h =
-        settled-refused (cond well (cond (ltb op 3) 9 12) 1) (linear-status env (length lits) (length ends) op constant ts)
-        (rw (lt-leb (length ts) 12 h)) env lits ends _ (sum-number well (ltb op 3))
+        settled-refused (cond well (cond (operation-known op) 9 12) 1) (linear-status env (length lits) (length ends) op constant ts)
+        (rw (lt-leb (length ts) 12 h)) env lits ends _ (sum-number well (operation-known op))
 
     pub many-terms : (ts us : List ℤ) → 12 < length ts → 12 < length us → linear-outcome env lits ends op constant ts ≡ linear-outcome env lits ends op constant us
     many-terms ts us h g = sum-refused ts h ∙ sym (sum-refused us g)

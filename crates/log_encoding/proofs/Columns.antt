@@ -14,7 +14,8 @@ use Rattle.arithmetic.specs.Integers.{down, up}
 use Rattle.sat.specs.Clause.{Clauses}
 use Rattle.sat.specs.Fresh.{fresh}
 use Rattle.sat.proofs.Fresh.{length-fresh}
-use Rattle.norm_csp.specs.Rules.{CmpOp, LinearTerm, eq, ge, ne}
+use Rattle.norm_csp.specs.NormOp.{NormOp, eq, ge, ne}
+use Rattle.norm_csp.specs.Rules.{LinearTerm}
 use Rattle.log_encoding.specs.LogEncoding.{LogEncoding}
 use Rattle.log_encoding.specs.VarSize.{setting-shape}
 use Rattle.log_encoding.specs.Column.{column}
@@ -182,13 +183,13 @@ eq-columns-are ps a b v =
     eq-adder-reached (gather ps []) (a - (b + negated-constant ps)) (b + negated-constant ps - a) v
     ∙ ap₂ (λ hs n. eq-reached hs (a - (b + n)) (b + n - a) 0) (gather-counts-are ps []) (negated-bits-are ps)
 
-sum-columns-are : (op : CmpOp) (ps : List Weighted) (a b v : ℕ) → sum-columns op ps a b v ≡ linear-reached op (map shape-of ps) a b
+sum-columns-are : (op : NormOp) (ps : List Weighted) (a b v : ℕ) → sum-columns op ps a b v ≡ linear-reached op (map shape-of ps) a b
 sum-columns-are eq ps a b v = eq-columns-are ps a b v
 sum-columns-are ne ps a b v = ap₂ (λ p n. p ++ n) (sign-columns-are false ps a v) (sign-columns-are true ps b (sign-adder false ps a v .vars))
 sum-columns-are ge ps a b v = ap₂ (λ p n. p ++ n) (sign-columns-are false ps a v) (sign-columns-are true ps b (sign-adder false ps a v .vars))
 
 -- document 01's columns reached, of a sum
-pub linear-log-columns : (int-map : ℕ → LogEncoding) (op : CmpOp) (constant : ℤ) (terms : List LinearTerm) (v : ℕ)
+pub linear-log-columns : (int-map : ℕ → LogEncoding) (op : NormOp) (constant : ℤ) (terms : List LinearTerm) (v : ℕ)
     → (let k = offset-constant int-map constant terms in
     sum-columns op (weighted-terms int-map terms) (up k) (down k) v ≡ linear-log-reached (λ i. setting-shape (int-map i)) op constant terms)
 linear-log-columns int-map op constant terms v =

@@ -14,7 +14,8 @@ use Rattle.sat.specs.Clause.{Assignment}
 use Rattle.sat.specs.Encodes.{Any, Encodes, LitsBelow}
 use Rattle.sat.specs.Number.{code-of}
 use Rattle.sat.proofs.Extend.{means}
-use Rattle.norm_csp.specs.Rules.{CmpOp, Compares, LinearHolds, LinearTerm, eq, ge, linear-sum, ne}
+use Rattle.norm_csp.specs.NormOp.{NormOp, cmp-op, eq, ge, ne}
+use Rattle.norm_csp.specs.Rules.{Compares, LinearHolds, LinearTerm, linear-sum}
 use Rattle.log_encoding.specs.LogEncoding.{LogEncoding, get-int-value}
 use Rattle.log_encoding.specs.EncodeLinearLog.{TermsBelow, encode-linear-log, encode-weighted, eq-rule, offset-constant, weighted, weighted-terms}
 use Rattle.log_encoding.specs.Linear.{Weighted, signed-sum}
@@ -44,9 +45,9 @@ terms-below v int-map (t ∷ ts) h =
 abbrev pub ComesTo : Assignment → List Weighted → ℤ → ℤ → Type 0
 ComesTo α ps k z = up z + signed-sum true α ps + down k ≡ down z + signed-sum false α ps + up k
 
-pub encode-weighted-encodes : (op : CmpOp) (ps : List Weighted) (k : ℤ) (v : ℕ) → WeightedBelow v ps
+pub encode-weighted-encodes : (op : NormOp) (ps : List Weighted) (k : ℤ) (v : ℕ) → WeightedBelow v ps
     → up k < 4294967296 → down k < 4294967296 → (z : Assignment → ℤ) → ((α : Assignment) → ComesTo α ps k (z α))
-    → Encodes v (encode-weighted op ps k v .vars) Any (λ α. Compares op (z α)) (encode-weighted op ps k v .clauses)
+    → Encodes v (encode-weighted op ps k v .vars) Any (λ α. Compares (cmp-op op) (z α)) (encode-weighted op ps k v .clauses)
 encode-weighted-encodes eq ps k v b p q z is =
     means
     (λ α.
@@ -93,10 +94,10 @@ module _ (int-map : ℕ → LogEncoding) (constant : ℤ) where
         ap (λ x. down k * x) at,
       )
 
-  pub encode-linear-log-encodes : (op : CmpOp) (ts : List LinearTerm) (v : ℕ) → TermsBelow v int-map ts
+  pub encode-linear-log-encodes : (op : NormOp) (ts : List LinearTerm) (v : ℕ) → TermsBelow v int-map ts
       → up (offset-constant int-map constant ts) < 4294967296 → down (offset-constant int-map constant ts) < 4294967296
       → (let out = encode-linear-log int-map op constant ts v in
-      Encodes v (out .vars) Any (λ α. LinearHolds (λ i. get-int-value α (int-map i)) op constant ts) (out .clauses))
+      Encodes v (out .vars) Any (λ α. LinearHolds (λ i. get-int-value α (int-map i)) (cmp-op op) constant ts) (out .clauses))
   encode-linear-log-encodes op ts v h p q =
       encode-weighted-encodes op (weighted-terms int-map ts) (offset-constant int-map constant ts) v (terms-below v int-map ts h) p q _
       (λ α. sum-comes-to α ts)

@@ -29,3 +29,4 @@ pub mod Multiply
 pub mod EncodeMulLog
 pub mod MulSize
 pub mod Columns
+pub mod Turned

@@ -11,7 +11,8 @@ use Rattle.sat.specs.Encoded.{EncodedRule}
 use Rattle.sat.specs.Lit.{neg}
 use Rattle.sat.specs.Size.{HasSize, weight-of}
 use Rattle.sat.proofs.Size.{RuleSize, has-size, weight-append}
-use Rattle.norm_csp.specs.Rules.{CmpOp, LinearTerm, eq, ge, ne}
+use Rattle.norm_csp.specs.NormOp.{NormOp, eq, ge, ne}
+use Rattle.norm_csp.specs.Rules.{LinearTerm}
 use Rattle.log_encoding.specs.LogEncoding.{LogEncoding}
 use Rattle.log_encoding.specs.VarSize.{setting-shape}
 use Rattle.log_encoding.specs.Gather.{Grid, push-scaled, with-constant}
@@ -155,7 +156,7 @@ module _ (weigh : ℕ → ℕ) where
       let size = eq-adder-size weigh (gather ps []) (a - (b + negated-constant ps)) (b + negated-constant ps - a) v in
       subst₂ (λ hs n. EqSize weigh v (linear-eq ps a b v) hs (a - (b + n)) (b + n - a)) (gather-counts-are ps []) (negated-bits-are ps) size
 
-  rule-size : (op : CmpOp) (ps : List Weighted) (k : ℤ) (v : ℕ)
+  rule-size : (op : NormOp) (ps : List Weighted) (k : ℤ) (v : ℕ)
       → RuleSize weigh v (encode-weighted op ps k v) (linear-count weigh op (map shape-of ps) (up k) (down k)) (linear-vars op (map shape-of ps) (up k) (down k))
   rule-size eq ps k v =
       let out = linear-eq ps (up k) (down k) v in
@@ -172,7 +173,7 @@ module _ (weigh : ℕ → ℕ) where
 
 -- Both counts ---------------------------------------------------------------------------------------------------------
 
-pub encode-weighted-size : (op : CmpOp) (ps : List Weighted) (k : ℤ) (v : ℕ)
+pub encode-weighted-size : (op : NormOp) (ps : List Weighted) (k : ℤ) (v : ℕ)
     → (let out = encode-weighted op ps k v in HasSize v (out .vars) (out .clauses) (linear-size op (map shape-of ps) k))
 encode-weighted-size op ps k v =
     has-size v (encode-weighted op ps k v) (λ weigh. linear-count weigh op (map shape-of ps) (up k) (down k)) _ (λ weigh. rule-size weigh op ps k v)
@@ -186,7 +187,7 @@ pub term-shapes-are : (int-map : ℕ → LogEncoding) (terms : List LinearTerm)
 term-shapes-are int-map [] = refl
 term-shapes-are int-map (t ∷ ts) = ap₂ (λ s ss. s ∷ ss) (shape-of-weighted (t .coef) (int-map (t .var) .lits)) (term-shapes-are int-map ts)
 
-pub encode-linear-log-size : (int-map : ℕ → LogEncoding) (op : CmpOp) (constant : ℤ) (terms : List LinearTerm) (v : ℕ)
+pub encode-linear-log-size : (int-map : ℕ → LogEncoding) (op : NormOp) (constant : ℤ) (terms : List LinearTerm) (v : ℕ)
     → (let out = encode-linear-log int-map op constant terms v in
     HasSize v (out .vars) (out .clauses) (linear-log-size (λ i. setting-shape (int-map i)) op constant terms))
 encode-linear-log-size int-map op constant terms v =

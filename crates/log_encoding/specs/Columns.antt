@@ -10,7 +10,7 @@ use Rattle.arithmetic.specs.Integers.{down, up}
 use Rattle.sat.specs.Clause.{Clauses}
 use Rattle.sat.specs.Encoded.{EncodedBits}
 use Rattle.sat.specs.Fresh.{fresh}
-use Rattle.norm_csp.specs.Rules.{CmpOp, eq, ge, ne}
+use Rattle.norm_csp.specs.NormOp.{NormOp, eq, ge, ne}
 use Rattle.log_encoding.specs.LogEncoding.{LogEncoding}
 use Rattle.log_encoding.specs.Column.{column}
 use Rattle.log_encoding.specs.Adder.{AdderColumn, carry-size, empty-column, result, result-vars, tail}
@@ -141,7 +141,7 @@ abbrev pub eq-sum-columns : List Weighted → ℕ → ℕ → ℕ → List EqAdd
 eq-sum-columns ps a b v = eq-adder-columns (gather ps []) (a - (b + negated-constant ps)) (b + negated-constant ps - a) v
 
 -- those of a sum with the constant a - b, as `encode-weighted`: Eq has one adder, Ne and Ge one for each sign
-abbrev pub sum-columns : CmpOp → List Weighted → ℕ → ℕ → ℕ → List Reached
+abbrev pub sum-columns : NormOp → List Weighted → ℕ → ℕ → ℕ → List Reached
 sum-columns eq ps a b v = map eq-reached-of (eq-sum-columns ps a b v)
 sum-columns ne ps a b v = map reached-of (sign-columns false ps a v) ++ map reached-of (sign-columns true ps b (sign-adder false ps a v .vars))
 sum-columns ge ps a b v = map reached-of (sign-columns false ps a v) ++ map reached-of (sign-columns true ps b (sign-adder false ps a v .vars))

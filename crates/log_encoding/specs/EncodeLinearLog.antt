@@ -6,7 +6,8 @@ use mathlib.Core.List.{List, [], _++_, _∷_}
 use Rattle.arithmetic.specs.Integers.{down, up}
 use Rattle.sat.specs.Encoded.{EncodedRule}
 use Rattle.sat.specs.Encodes.{LitsBelow}
-use Rattle.norm_csp.specs.Rules.{CmpOp, LinearTerm, eq, ge, linear-sum, ne}
+use Rattle.norm_csp.specs.NormOp.{NormOp, eq, ge, ne}
+use Rattle.norm_csp.specs.Rules.{LinearTerm, linear-sum}
 use Rattle.log_encoding.specs.LogEncoding.{LogEncoding}
 use Rattle.log_encoding.specs.Adder2.{EncodedEq}
 use Rattle.log_encoding.specs.Linear.{Weighted, linear-eq, linear-ge, linear-ne}
@@ -30,13 +31,13 @@ abbrev pub eq-rule : EncodedEq → EncodedRule
 eq-rule out = record { clauses = out .sent ++ out .returned; vars = out .vars }
 
 -- the constant k is up k less down k
-abbrev pub encode-weighted : CmpOp → List Weighted → ℤ → ℕ → EncodedRule
+abbrev pub encode-weighted : NormOp → List Weighted → ℤ → ℕ → EncodedRule
 encode-weighted eq ps k v = eq-rule (linear-eq ps (up k) (down k) v)
 encode-weighted ne ps k v = linear-ne ps (up k) (down k) v
 encode-weighted ge ps k v = linear-ge ps (up k) (down k) v
 
 -- v variables are there before
-abbrev pub encode-linear-log : (ℕ → LogEncoding) → CmpOp → ℤ → List LinearTerm → ℕ → EncodedRule
+abbrev pub encode-linear-log : (ℕ → LogEncoding) → NormOp → ℤ → List LinearTerm → ℕ → EncodedRule
 encode-linear-log int-map op constant terms v = encode-weighted op (weighted-terms int-map terms) (offset-constant int-map constant terms) v
 
 -- the records have literals of the first v variables, and coefficients are below 4,096

@@ -23,3 +23,4 @@ pub mod Multiply
 pub mod EncodeMulLog
 pub mod MulSize
 pub mod Columns
+pub mod Turned

@@ -7,7 +7,8 @@ use mathlib.Core.List.{List, [], _++_, _∷_}
 use Rattle.arithmetic.specs.Bits.{shl}
 use Rattle.arithmetic.specs.Integers.{down, up}
 use Rattle.sat.specs.Size.{Size, size-by}
-use Rattle.norm_csp.specs.Rules.{CmpOp, LinearTerm, eq, ge, linear-sum, ne}
+use Rattle.norm_csp.specs.NormOp.{NormOp, eq, ge, ne}
+use Rattle.norm_csp.specs.Rules.{LinearTerm, linear-sum}
 use Rattle.log_encoding.specs.VarSize.{SettingShape}
 use Rattle.log_encoding.specs.AdderSize.{ColumnShape, Reached, adder-count, adder-vars, carry-vars, eq-count, eq-reached, push-scaled-counts, reached}
 use Rattle.log_encoding.specs.Linear.{Weighted}
@@ -69,7 +70,7 @@ abbrev pub sum-target : List WeightedShape → ℕ → ℕ → ℕ
 sum-target ps a b = b + negated-bits ps - a
 
 -- document 01's columns reached, of terms with the constant a - b
-abbrev pub linear-reached : CmpOp → List WeightedShape → ℕ → ℕ → List Reached
+abbrev pub linear-reached : NormOp → List WeightedShape → ℕ → ℕ → List Reached
 linear-reached eq ps a b = eq-reached (gather-counts ps []) (sum-plus ps a b) (sum-target ps a b) 0
 linear-reached ne ps a b = sign-reached false ps a ++ sign-reached true ps b
 linear-reached ge ps a b = sign-reached false ps a ++ sign-reached true ps b
@@ -81,7 +82,7 @@ abbrev pub compare-vars : List Reached → List Reached → ℕ
 compare-vars ps ns = adder-vars ps 0 + adder-vars ns 0 + min (length ps) (length ns)
 
 -- the new variables
-abbrev pub linear-vars : CmpOp → List WeightedShape → ℕ → ℕ → ℕ
+abbrev pub linear-vars : NormOp → List WeightedShape → ℕ → ℕ → ℕ
 linear-vars eq ps a b = carry-vars (linear-reached eq ps a b)
 linear-vars ne ps a b = compare-vars (sign-reached false ps a) (sign-reached true ps b)
 linear-vars ge ps a b = compare-vars (sign-reached false ps a) (sign-reached true ps b)
@@ -107,13 +108,13 @@ module _ (weigh : ℕ → ℕ) where
   compare-count last ps ns = adder-count weigh ps + adder-count weigh ns + last (length ps) (length ns)
 
   -- all clauses
-  abbrev pub linear-count : CmpOp → List WeightedShape → ℕ → ℕ → ℕ
+  abbrev pub linear-count : NormOp → List WeightedShape → ℕ → ℕ → ℕ
   linear-count eq ps a b = eq-count weigh (gather-counts ps []) (sum-plus ps a b) (sum-target ps a b)
   linear-count ne ps a b = compare-count ne-count (sign-reached false ps a) (sign-reached true ps b)
   linear-count ge ps a b = compare-count ge-count (sign-reached false ps a) (sign-reached true ps b)
 
 -- the size of terms with the constant k
-abbrev pub linear-size : CmpOp → List WeightedShape → ℤ → Size
+abbrev pub linear-size : NormOp → List WeightedShape → ℤ → Size
 linear-size op ps k = size-by (linear-vars op ps (up k) (down k)) (λ weigh. linear-count weigh op ps (up k) (down k))
 
 -- a sum's terms, from the settings' shapes
@@ -122,12 +123,12 @@ term-shapes settings [] = []
 term-shapes settings (t ∷ ts) = weighted-shape (t .coef) (settings (t .var) .bits) ∷ term-shapes settings ts
 
 -- the size of a sum of document 01
-abbrev pub linear-log-size : (ℕ → SettingShape) → CmpOp → ℤ → List LinearTerm → Size
+abbrev pub linear-log-size : (ℕ → SettingShape) → NormOp → ℤ → List LinearTerm → Size
 linear-log-size settings op constant terms =
     linear-size op (term-shapes settings terms) (linear-sum (λ i. settings i .offset) constant terms)
 
 -- document 01's columns reached, of a sum
-abbrev pub linear-log-reached : (ℕ → SettingShape) → CmpOp → ℤ → List LinearTerm → List Reached
+abbrev pub linear-log-reached : (ℕ → SettingShape) → NormOp → ℤ → List LinearTerm → List Reached
 linear-log-reached settings op constant terms =
     let k = linear-sum (λ i. settings i .offset) constant terms in
     linear-reached op (term-shapes settings terms) (up k) (down k)

@@ -6,7 +6,7 @@ use mathlib.Core.Bool.{Bool, _&&_, cond}
 use mathlib.Core.List.{List, [], _++_, _∷_}
 use Rattle.arithmetic.specs.Integers.{down, up}
 use Rattle.sat.specs.Size.{Size, size-by}
-use Rattle.norm_csp.specs.Rules.{eq}
+use Rattle.norm_csp.specs.NormOp.{eq}
 use Rattle.log_encoding.specs.VarSize.{SettingShape}
 use Rattle.log_encoding.specs.AdderSize.{Reached, adder-count, adder-vars, pad-shapes, push-counts, reached}
 use Rattle.log_encoding.specs.LinearSize.{WeightedShape, linear-count, linear-reached, linear-vars, weighted-shape}

@@ -13,7 +13,7 @@ use Rattle.sat.specs.declared.Lit.{Lit}
 use Rattle.clause_set.specs.Stores.{Stores, add-clauses, after}
 use Rattle.clause_set.specs.declared.Counts.{Counts}
 use Rattle.clause_set.proofs.Adding.{add-append}
-use Rattle.norm_csp.specs.Rules.{eq}
+use Rattle.norm_csp.specs.NormOp.{eq}
 use Rattle.log_encoding.specs.LogEncoding.{LogEncoding}
 use Rattle.log_encoding.specs.VarSize.{setting-shape}
 use Rattle.log_encoding.specs.Adder2.{Adder2Output, EncodedEq, adder2, eq-adder, eq-columns, last-column, returned-set}

@@ -4,7 +4,7 @@ use mathlib.Core.List.{List, [], _∷_}
 use Prim.Native.Nat.{ℕ, min, suc, _+_, _*_, _/_, _≤_, _<_}
 use native.Mathlib.Nat.{mul-le-mul}
 use native.Mathlib.Omega.{arith}
-use lib.IntN.{_*ℤ_, _+ℤ_, +ℤ-assoc, +ℤ-comm, negsuc, pos, ℤ}
+use lib.IntN.{_*ℤ_, _+ℤ_, negsuc, pos, ℤ}
 use lib.ListN.{length, drop, getD, length-drop}
 use lib.Seq.{drop-cons}
 use mir.Syntax.{w32}
@@ -13,6 +13,7 @@ use Rattle.arithmetic.specs.Integers.{down, up}
 use Rattle.arithmetic.proofs.Integers.{add-read, apart-read, mul-read}
 use Rattle.arithmetic.proofs.Offset.{mag-below}
 use Rattle.norm_csp.specs.Rules.{LinearTerm, linear-sum, terms-of}
+use Rattle.norm_csp.proofs.Turned.{sum-from}
 
 -- One product ---------------------------------------------------------------------------------------------------------
 
@@ -34,13 +35,6 @@ pub small-fits : (z : ℤ) → up z < 2147483648 → down z < 2147483648 → SFi
 small-fits z a b = record { sfits = mag-below z 2147483648 a b }
 
 -- Added up from the first term on --------------------------------------------------------------------------------------
-
-pub sum-from : (number : ℕ → ℤ) (c k : ℤ) (ts : List LinearTerm) → linear-sum number (c +ℤ k) ts ≡ c +ℤ linear-sum number k ts
-sum-from number c k [] = refl
-sum-from number c k (t ∷ ts) =
-    let p = t .coef *ℤ number (t .var) in
-    let s = linear-sum number k ts in
-    ap (λ (x : ℤ). p +ℤ x) (sum-from number c k ts) ∙ sym (+ℤ-assoc p c s) ∙ ap (λ (x : ℤ). x +ℤ s) (+ℤ-comm p c) ∙ +ℤ-assoc c p s
 
 -- the terms from the i-th on
 abbrev pub terms-from : List ℤ → ℕ → List LinearTerm

@@ -14,7 +14,8 @@ use lib.Signed.{ltZ}
 use Rattle.arithmetic.specs.Integers.{down, up}
 use Rattle.sat.specs.declared.Lit.{Lit}
 use Rattle.sat.specs.LitArray.{first-lits, lit, num}
-use Rattle.norm_csp.specs.Rules.{CmpOp, LinearTerm, terms-of}
+use Rattle.norm_csp.specs.NormOp.{NormOp}
+use Rattle.norm_csp.specs.Rules.{LinearTerm, terms-of}
 use Rattle.log_encoding.specs.LogEncoding.{LogEncoding}
 use Rattle.log_var.specs.declared.LogEncoding.{LogEncoding as Encoding}
 use Rattle.arithmetic.proofs.Tests.{same-or}
@@ -89,7 +90,7 @@ weighing-end {im} {zs} {ts} {i} w few h =
 
 -- Sums over records ---------------------------------------------------------------------------------------------------
 
-module _ (es : List Encoding) (op : CmpOp) (constant : ℤ) (zs : List ℤ) (ts : List WeightedLits) (n : ℕ) (k : ℤ)
+module _ (es : List Encoding) (op : NormOp) (constant : ℤ) (zs : List ℤ) (ts : List WeightedLits) (n : ℕ) (k : ℤ)
     (same : weighted-all ts n ≡ weighted-terms (int-map-of es) (terms-of zs)) (sum : k ≡ offset-constant (int-map-of es) constant (terms-of zs)) where
   -- the columns reached are those of the terms
   pub reached-is : linear-reached op (shapes-all ts n) (up k) (down k) ≡ linear-log-reached (shape-map-of es) op constant (terms-of zs)

@@ -7,7 +7,8 @@ ghost use lib.IntN.{pos, _*ℤ_, _+ℤ_};
 ghost use lib.ListN.{getD, length};
 ghost use Rattle.arithmetic.specs.Integers.{down, up};
 ghost use Rattle.clause_set.specs.Stores.{after};
-ghost use Rattle.norm_csp.specs.Rules.{op-of, terms-of};
+ghost use Rattle.norm_csp.specs.NormOp.{op-of};
+ghost use Rattle.norm_csp.specs.Rules.{terms-of};
 ghost use Rattle.log_encoding.specs.AdderSize.{greatest-height, too-tall};
 ghost use Rattle.log_encoding.specs.EncodeLinearLog.{encode-linear-log, offset-constant, weighted, weighted-terms};
 ghost use Rattle.log_encoding.specs.LinearSize.{linear-log-reached};
@@ -112,7 +113,7 @@ fn add_offset(sum: i32, coef: i32, offset: i32) -> i32
 // The constant plus every coefficient times its setting's offset.
 fn offset_constant(encodings: [LogEncoding; 32], constant: i32, terms: &[i32]) -> i32
     requires { ⌜ TermsReady encodings (now terms) ⌝ }
-    requires { ⌜ (up constant ≤ 1000000) × (down constant ≤ 1000000) ⌝ }
+    requires { ⌜ (up constant ≤ 1000001) × (down constant ≤ 1000001) ⌝ }
     ensures { λ r. ⌜ (r ≡ offset-constant (int-map-of encodings) constant (terms-of (now (terms .entry)))) × (up r < 33554432) × (down r < 33554432) ⌝ }
 {
     let n = terms.len() / 2;
@@ -130,7 +131,7 @@ fn offset_constant(encodings: [LogEncoding; 32], constant: i32, terms: &[i32]) -
 // The greatest height of a column that a sum over the settings' records reaches: above 12, document 01's 13.
 pub fn linear_height(encodings: [LogEncoding; 32], op: u32, constant: i32, terms: &[i32]) -> u32
     requires { ⌜ TermsReady encodings (now terms) ⌝ }
-    requires { ⌜ (up constant ≤ 1000000) × (down constant ≤ 1000000) ⌝ }
+    requires { ⌜ (up constant ≤ 1000001) × (down constant ≤ 1000001) ⌝ }
     ensures { λ r. ⌜ r ≡ greatest-height (linear-log-reached (shape-map-of encodings) (op-of op) constant (terms-of (now (terms .entry)))) ⌝ }
 {
     let ts = weighted_terms(encodings, terms);
@@ -150,7 +151,7 @@ pub fn encode_linear_log(
     at: Counts,
 ) -> RuleCounts
     requires { ⌜ TermsReady encodings (now terms) ⌝ }
-    requires { ⌜ (up constant ≤ 1000000) × (down constant ≤ 1000000) × (vars ≤ 65535) × (at .lits ≤ 16777216) × (at .clauses ≤ 16777216) ⌝ }
+    requires { ⌜ (up constant ≤ 1000001) × (down constant ≤ 1000001) × (vars ≤ 65535) × (at .lits ≤ 16777216) × (at .clauses ≤ 16777216) ⌝ }
     requires { ⌜ too-tall (linear-log-reached (shape-map-of encodings) (op-of op) constant (terms-of (now terms))) ≡ false ⌝ }
     ensures { λ r. ⌜ rule-outcome (now (lits .exit)) (now (ends .exit)) r ≡ add-rule (encode-linear-log (int-map-of encodings) (op-of op) constant (terms-of (now (terms .entry))) vars) (after (now (lits .entry)) (now (ends .entry)) at) ⌝ }
 {

@@ -9,7 +9,7 @@ use Rattle.sat.specs.Encoded.{EncodedRule}
 use Rattle.sat.specs.declared.Lit.{Lit}
 use Rattle.clause_set.specs.Stores.{add-clauses, after}
 use Rattle.clause_set.specs.declared.Counts.{Counts}
-use Rattle.norm_csp.specs.Rules.{eq}
+use Rattle.norm_csp.specs.NormOp.{eq}
 use Rattle.log_encoding.specs.Adder2.{Adder2Output, adder2, adder2-clauses, eq-adder, eq-columns, last-column}
 use Rattle.log_encoding.specs.Gather.{Grid}
 use Rattle.log_encoding.specs.AdderSize.{eq-reached, too-tall}

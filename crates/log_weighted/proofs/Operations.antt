@@ -8,7 +8,7 @@ use borrow.Author.Tests.{ne-eqb}
 use lib.Dec.{eqb}
 use lib.IntN.{ℤ}
 use Rattle.arithmetic.specs.Integers.{down, up}
-use Rattle.norm_csp.specs.Rules.{op-of}
+use Rattle.norm_csp.specs.NormOp.{op-of}
 use Rattle.log_encoding.specs.AdderSize.{greatest-height}
 use Rattle.log_encoding.specs.EncodeLinearLog.{encode-weighted, eq-rule}
 use Rattle.log_encoding.specs.Linear.{Weighted, linear-compared, linear-eq}

@@ -8,7 +8,7 @@ ghost use lib.ListN.{length};
 ghost use Rattle.arithmetic.specs.Bits.{bit-length};
 ghost use Rattle.arithmetic.specs.Integers.{down, up};
 ghost use Rattle.clause_set.specs.Stores.{after};
-ghost use Rattle.norm_csp.specs.Rules.{eq, op-of};
+ghost use Rattle.norm_csp.specs.NormOp.{eq, op-of};
 ghost use Rattle.log_encoding.specs.Adder2.{eq-adder};
 ghost use Rattle.log_encoding.specs.AdderSize.{greatest-height, too-tall};
 ghost use Rattle.log_encoding.specs.EncodeLinearLog.{encode-weighted, eq-rule};

@@ -1,2 +1,3 @@
 pub mod Domain
 pub mod NormCsp
+pub mod Turned

@@ -1,20 +1,23 @@
 -- The rules of the plain book, after `LinearLit` and `ExtraConstraint::Mul` of norm_csp/mod.rs: sums and products.
 use Prim.Native.Nat.{suc, zero, ℕ}
 use lib.IntN.{_*ℤ_, _+ℤ_, pos, ℤ}
-use lib.Signed.{_≤ℤ_}
+use lib.Signed.{_<ℤ_, _≤ℤ_}
 use mathlib.Core.List.{List, [], _∷_}
 use mathlib.Core.Path.{_≡_}
 use Rattle.arithmetic.specs.Integers.{up}
 
--- document 01's operations 0 Eq, 1 Ne, 2 Ge
+-- the operations 0 Eq, 1 Ne, 2 Ge of document 01 and 3 Le, 4 Lt, 5 Gt of document 02, #102
 pub data CmpOp : Type 0 where
-  eq ne ge : CmpOp
+  eq ne ge le lt gt : CmpOp
 
 -- an operation by its number
-abbrev pub op-of : ℕ → CmpOp
-op-of zero = eq
-op-of (suc zero) = ne
-op-of (suc (suc n)) = ge
+abbrev pub cmp-op-of : ℕ → CmpOp
+cmp-op-of zero = eq
+cmp-op-of (suc zero) = ne
+cmp-op-of (suc (suc zero)) = ge
+cmp-op-of (suc (suc (suc zero))) = le
+cmp-op-of (suc (suc (suc (suc zero)))) = lt
+cmp-op-of (suc (suc (suc (suc (suc n))))) = gt
 
 -- a setting's number and its coefficient
 pub record LinearTerm : Type 0 where
@@ -32,11 +35,14 @@ abbrev pub linear-sum : (ℕ → ℤ) → ℤ → List LinearTerm → ℤ
 linear-sum number constant [] = constant
 linear-sum number constant (t ∷ ts) = t .coef *ℤ number (t .var) +ℤ linear-sum number constant ts
 
--- 0, not 0, at least 0
+-- 0, not 0, at least 0; at most 0, below 0, above 0
 abbrev pub Compares : CmpOp → ℤ → Type 0
 Compares eq z = z ≡ pos 0
 Compares ne z = z ≡ pos 0 → ⊥
 Compares ge z = pos 0 ≤ℤ z
+Compares le z = z ≤ℤ pos 0
+Compares lt z = z <ℤ pos 0
+Compares gt z = pos 0 <ℤ z
 
 -- a sum, where `number` gives each setting's number
 abbrev pub LinearHolds : (ℕ → ℤ) → CmpOp → ℤ → List LinearTerm → Type 0

@@ -24,10 +24,10 @@ past1 : (c : tie.Else1) → FirstHold 1 (checks (c .before .before))
 past1 c = let w = c .before .well-formed in rw (← w .ensures, not-false (w .result) (c .if1 .left))
 
 returns-2 : tie.Need-returns-2
-returns-2 c = sym (past1 (c .before) ∙ rw (le-ltb _ 3 (c .if2 .taken)))
+returns-2 c = sym (past1 (c .before) ∙ rw (le-ltb _ 6 (c .if2 .taken)))
 
 past2 : (c : tie.Else2) → FirstHold 2 (checks (c .before .before .before))
-past2 c = past1 (c .before) ∙ rw (lt-ltb _ 3 (c .if2 .left))
+past2 c = past1 (c .before) ∙ rw (lt-ltb _ 6 (c .if2 .left))
 
 terms-paired-requires : tie.Need-terms-paired-requires
 terms-paired-requires c κs = search needs

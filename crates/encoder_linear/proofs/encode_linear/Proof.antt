@@ -30,8 +30,8 @@ returns c =
 counts-of-requires : tie.Need-counts-of-requires
 counts-of-requires c κs = search needs
 
-encode-linear-log-requires : tie.Need-encode-linear-log-requires
-encode-linear-log-requires c κs =
+encode-turned-requires : tie.Need-encode-turned-requires
+encode-turned-requires c κs =
     let n = c .before .before .before in
     let t = n .before .before in
     let s = t .before .before .before in
@@ -46,7 +46,7 @@ rule-accepted-requires c κs =
     let t = n .before .before in
     let s = t .before .before .before in
     let a = s .args in
-    rule-fits (a .lits .now) (a .ends .now) (call s) refl (t .linear-status .ensures) (n .before .if1 .left) (n .counts-of .ensures) (w .encode-linear-log .ensures)
+    rule-fits (a .lits .now) (a .ends .now) (call s) refl (t .linear-status .ensures) (n .before .if1 .left) (n .counts-of .ensures) (w .encode-turned .ensures)
 
 same-length : tie.Need-same-length
 same-length c = search needs
@@ -61,7 +61,7 @@ returns-2 c =
     let t = n .before .before in
     let s = t .before .before .before in
     let a = s .args in
-    rw (toZ-ofZ w32 (a .constant) (s .fits .constant)) at (rule-added (a .lits .now) (a .ends .now) (call s) refl (t .linear-status .ensures) (n .before .if1 .left) (n .counts-of .ensures) (w .encode-linear-log .ensures) (c .rule-accepted .ensures))
+    rw (toZ-ofZ w32 (a .constant) (s .fits .constant)) at (rule-added (a .lits .now) (a .ends .now) (call s) refl (t .linear-status .ensures) (n .before .if1 .left) (n .counts-of .ensures) (w .encode-turned .ensures) (c .rule-accepted .ensures))
 
 pub encode-linear-spec : {M : Type 1} → statement M
 encode-linear-spec =
@@ -71,7 +71,7 @@ encode-linear-spec =
     refusal-requires
     returns
     counts-of-requires
-    encode-linear-log-requires
+    encode-turned-requires
     rule-accepted-requires
     same-length
     same-length-2

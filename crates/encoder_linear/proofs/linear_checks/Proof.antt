@@ -42,23 +42,23 @@ returns c =
 passed-all : (c : tie.Else1) → status-of (first (c .before .before)) ≡ 0
 passed-all c = sym (c .before .argument-status .ensures) ∙ c .if1 .left
 
-linear-height-requires : tie.Need-linear-height-requires
-linear-height-requires c κs =
+turned-height-requires : tie.Need-turned-height-requires
+turned-height-requires c κs =
     let s = c .before .before .before in
     let a = s .args in
     let k = arguments-known (a .env) (a .lits) (a .ends) (a .op) (given s) (a .terms .now) (passed-all (c .before)) in
     (terms-ready (a .env) (a .lits) (a .ends) (a .op) (given s) (a .terms .now) k, (omega (arith, k .constant-small), omega (arith, k .constant-small)))
 
 -- the height decides
-rest : (c : tie.After-linear-height) → let s = c .before .before .before .before in status-of (first s ++ last s) ≡ status-of (last s)
+rest : (c : tie.After-turned-height) → let s = c .before .before .before .before in status-of (first s ++ last s) ≡ status-of (last s)
 rest c =
     let p = c .before .before in
     let s = p .before .before in
     let a = s .args in
     then-rest (first s) (last s) (arguments-numbered (a .env) (a .lits) (a .ends) (a .op) (given s) (a .terms .now)) (passed-all p)
 
-height-is : (c : tie.After-linear-height) → let s = c .before .before .before .before in let a = s .args in greatest-height (sum-reached (a .env) (a .op) (given s) (a .terms .now)) ≡ c .linear-height .result
-height-is c = sym (c .linear-height .ensures)
+height-is : (c : tie.After-turned-height) → let s = c .before .before .before .before in let a = s .args in greatest-height (sum-reached (a .env) (a .op) (given s) (a .terms .now)) ≡ c .turned-height .result
+height-is c = sym (c .turned-height .ensures)
 
 returns-2 : tie.Need-returns-2
 returns-2 c =
@@ -75,4 +75,4 @@ returns-3 c =
     rw (toZ-ofZ w32 (s .args .constant) (s .fits .constant)) at k
 
 pub linear-checks-spec : {M : Type 1} → statement M
-linear-checks-spec = tie.close (tie.spec argument-status-requires returns linear-height-requires returns-2 returns-3)
+linear-checks-spec = tie.close (tie.spec argument-status-requires returns turned-height-requires returns-2 returns-3)

@@ -8,14 +8,14 @@ use Rattle.encoder_answer.proofs.Answering.{rule-sized}
 use Rattle.encoder_linear.proofs.linear_size.Statement.{statement}
 use Rattle.encoder_linear.proofs.linear_size.Tie as tie
 
-slice-aggregate-encode-linear-log : tie.Need-slice-aggregate-encode-linear-log
-slice-aggregate-encode-linear-log c = search needs
+slice-aggregate-encode-turned : tie.Need-slice-aggregate-encode-turned
+slice-aggregate-encode-turned c = search needs
 
-slice-aggregate-encode-linear-log-2 : tie.Need-slice-aggregate-encode-linear-log-2
-slice-aggregate-encode-linear-log-2 c = search needs
+slice-aggregate-encode-turned-2 : tie.Need-slice-aggregate-encode-turned-2
+slice-aggregate-encode-turned-2 c = search needs
 
-encode-linear-log-requires : tie.Need-encode-linear-log-requires
-encode-linear-log-requires c κs =
+encode-turned-requires : tie.Need-encode-turned-requires
+encode-turned-requires c κs =
     let s = c .before .before .before in
     let h = s .pre in
     let e = toZ-ofZ w32 (s .args .constant) (s .fits .constant) in
@@ -25,8 +25,8 @@ returns : tie.Need-returns
 returns c =
     let s = c .before .before .before .before .before .before in
     let a = s .args in
-    let w = c .before .before .encode-linear-log in
+    let w = c .before .before .encode-turned in
     rw (toZ-ofZ w32 (a .constant) (s .fits .constant)) at (rule-sized (sum-encoded (a .env) (a .op) (toZ w32 (ofZ w32 (a .constant))) (a .terms .now)) (a .at) _ _ (w .result) (w .ensures))
 
 pub linear-size-spec : {M : Type 1} → statement M
-linear-size-spec = tie.close (tie.spec slice-aggregate-encode-linear-log slice-aggregate-encode-linear-log-2 encode-linear-log-requires returns)
+linear-size-spec = tie.close (tie.spec slice-aggregate-encode-turned slice-aggregate-encode-turned-2 encode-turned-requires returns)

@@ -8,7 +8,7 @@ use lib.ListN.{length, length-map}
 use mir.Syntax.{w32}
 use mir.ValLaws.{toZ-ofZ}
 use Rattle.arithmetic.specs.Integers.{down, up}
-use Rattle.norm_csp.specs.Rules.{eq}
+use Rattle.norm_csp.specs.NormOp.{eq}
 use Rattle.log_var.specs.Record.{encoding-of, lits-of}
 use Rattle.log_encoding.specs.VarSize.{setting-shape}
 use Rattle.log_encoding.specs.AdderSize.{Reached, greatest-height}

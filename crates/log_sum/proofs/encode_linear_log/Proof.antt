@@ -12,7 +12,8 @@ use mir.Val.{ofZ, toZ}
 use mir.ValLaws.{toZ-ofZ}
 use Rattle.sat.specs.Encoded.{EncodedRule}
 use Rattle.clause_set.specs.Stores.{after}
-use Rattle.norm_csp.specs.Rules.{op-of, terms-of}
+use Rattle.norm_csp.specs.NormOp.{op-of}
+use Rattle.norm_csp.specs.Rules.{terms-of}
 use Rattle.log_encoding.specs.AdderSize.{too-tall}
 use Rattle.log_linear.specs.Added.{add-rule}
 use Rattle.log_encoding.specs.EncodeLinearLog.{offset-constant}

@@ -9,7 +9,8 @@ use lib.ListN.{length}
 use mir.Syntax.{w32}
 use mir.Val.{ofZ, toZ}
 use mir.ValLaws.{toZ-ofZ}
-use Rattle.norm_csp.specs.Rules.{op-of, terms-of}
+use Rattle.norm_csp.specs.NormOp.{op-of}
+use Rattle.norm_csp.specs.Rules.{terms-of}
 use Rattle.log_encoding.specs.AdderSize.{greatest-height}
 use Rattle.log_encoding.specs.EncodeLinearLog.{offset-constant}
 use Rattle.log_var.specs.Record.{int-map-of}

@@ -64,8 +64,8 @@ add-offset-requires c κs =
     let k = c .before .before .before .before .loop-test .taken in
     let e = coef-is (c .before) in
     let o = offset-is s x lt in
-    let u : up (toZ w32 (ofZ w32 (s .args .constant))) ≤ 1000000 = rw q (p .0) in
-    let d : down (toZ w32 (ofZ w32 (s .args .constant))) ≤ 1000000 = rw q (p .1) in
+    let u : up (toZ w32 (ofZ w32 (s .args .constant))) ≤ 1000001 = rw q (p .0) in
+    let d : down (toZ w32 (ofZ w32 (s .args .constant))) ≤ 1000001 = rw q (p .1) in
     ((omega (arith, l .inv, u, k, s .pre .0 .few), omega (arith, l .inv, d, k, s .pre .0 .few)), rw (e, o) (t .coef-up, t .coef-down, h .offset-up, h .offset-down))
 
 add-i : tie.Need-add-i Inv-loop μ-loop
@@ -100,8 +100,8 @@ returns c =
     let p = s .pre .1 in
     let q = constant-is s in
     let number : ℕ → ℤ = λ j. int-map-of (s .args .t1) j .offset in
-    let u : up (toZ w32 (ofZ w32 (s .args .constant))) ≤ 1000000 = rw q (p .0) in
-    let d : down (toZ w32 (ofZ w32 (s .args .constant))) ≤ 1000000 = rw q (p .1) in
+    let u : up (toZ w32 (ofZ w32 (s .args .constant))) ≤ 1000001 = rw q (p .0) in
+    let d : down (toZ w32 (ofZ w32 (s .args .constant))) ≤ 1000001 = rw q (p .1) in
     let none = terms-done (s .args .terms .now) (l .i) (omega (arith, l .inv .1, c .loop-test .left)) in (
       sym (ap (λ (z : ℤ). linear-sum number z (terms-of (s .args .terms .now))) (sym q) ∙ l .inv .0 ∙ ap (linear-sum number (toZ w32 (l .sum))) none),
       omega (arith, l .inv, u, s .pre .0 .few),

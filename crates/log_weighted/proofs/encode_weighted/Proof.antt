@@ -11,7 +11,7 @@ use mir.ValLaws.{toZ-ofZ}
 use Rattle.arithmetic.specs.Integers.{down, up}
 use Rattle.sat.specs.Encoded.{EncodedRule}
 use Rattle.clause_set.specs.Stores.{after}
-use Rattle.norm_csp.specs.Rules.{eq, op-of}
+use Rattle.norm_csp.specs.NormOp.{eq, op-of}
 use Rattle.log_encoding.specs.AdderSize.{too-tall}
 use Rattle.log_linear.specs.Added.{add-rule}
 use Rattle.log_encoding.specs.LinearSize.{linear-reached, sign-reached}

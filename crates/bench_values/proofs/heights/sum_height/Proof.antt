@@ -43,8 +43,8 @@ returns c =
 known : (c : tie.Else1) → let a = c .before .before .args in ArgumentsKnown (a .env) (a .lits) (a .ends) (a .op) (a .constant) (a .terms .now)
 known c = let a = c .before .before .args in arguments-known (a .env) (a .lits) (a .ends) (a .op) (a .constant) (a .terms .now) (sym (checked (c .before)) ∙ c .if1 .left)
 
-linear-height-requires : tie.Need-linear-height-requires
-linear-height-requires c κs =
+turned-height-requires : tie.Need-turned-height-requires
+turned-height-requires c κs =
     let a = c .before .before .before .args in
     let k = known (c .before) in
     (terms-ready (a .env) (a .lits) (a .ends) (a .op) (a .constant) (a .terms .now) k, rw (constant-is (c .before .before .before)) (omega (arith, k .constant-small), omega (arith, k .constant-small)))
@@ -54,9 +54,9 @@ returns-2 c =
     let s = c .before .before .before .before in
     let a = s .args in
     let h = greatest-height (sum-reached (a .env) (a .op) (a .constant) (a .terms .now)) in
-    c .linear-height .ensures ∙ ap (λ (z : ℤ). greatest-height (sum-reached (a .env) (a .op) z (a .terms .now))) (constant-is s)
+    c .turned-height .ensures ∙ ap (λ (z : ℤ). greatest-height (sum-reached (a .env) (a .op) z (a .terms .now))) (constant-is s)
     ∙ sym (ap (height-if s) (sym (checked (c .before .before .before))) ∙ ap (λ (b : Bool). cond b h 0) (eq-eqb (c .before .before .before .argument-status .result) 0 (c .before .before .if1 .left)))
 
 pub sum-height-spec : {M : Type 1} → statement M
 sum-height-spec =
-    tie.close (tie.spec argument-status-requires returns linear-height-requires returns-2)
+    tie.close (tie.spec argument-status-requires returns turned-height-requires returns-2)
