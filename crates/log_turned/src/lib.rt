@@ -1,5 +1,5 @@
-// Sums of all six operations over the settings' records (document 02, #102): Le, Lt and Gt are turned to Ge. A call that is lent no
-// entries only counts.
+// Sums of all six operations over the settings' records (document 02, #102): Le, Lt and Gt are turned to Ge, after `normalized` in
+// `encode_constraint` of encoder/mod.rs. A call that is lent no entries only counts.
 ghost use mathlib.Core.Path.{_≡_};
 ghost use mathlib.Core.Bool.{false};
 ghost use Prim.Native.Nat.{_%_, _≤_};
@@ -103,8 +103,8 @@ pub fn turned_height(encodings: [LogEncoding; 32], op: u32, constant: i32, terms
 {
     let t = turned(op, constant, terms);
     let n = terms.len();
-    let given = t.terms;
-    linear_height(encodings, t.op, t.constant, &given[..n])
+    let list = t.terms;
+    linear_height(encodings, t.op, t.constant, &list[..n])
 }
 
 // The clauses of a sum: its columns fit.
@@ -125,14 +125,14 @@ pub fn encode_turned(
 {
     let t = turned(op, constant, terms);
     let n = terms.len();
-    let given = t.terms;
+    let list = t.terms;
     encode_linear_log(
         lits,
         ends,
         encodings,
         t.op,
         t.constant,
-        &given[..n],
+        &list[..n],
         vars,
         at,
     )

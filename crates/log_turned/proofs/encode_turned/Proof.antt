@@ -30,8 +30,8 @@ turned-requires c κs =
 turns : (c : tie.After-turned) → let a = c .before .before .before .args in Turns (cmp-op-of (a .op)) (a .constant) (a .terms .now) (c .turned .result)
 turns c = rw (constant-is (c .before .before .before)) at (c .turned .ensures)
 
-array-share-prefix-given : tie.Need-array-share-prefix-given
-array-share-prefix-given c = part-long (turns (c .before .before .before)) (c .before .before .before .before .before .before .pre .0 .few) .0
+array-share-prefix-list : tie.Need-array-share-prefix-list
+array-share-prefix-list c = part-long (turns (c .before .before .before)) (c .before .before .before .before .before .before .pre .0 .few) .0
 
 slice-aggregate-encode-linear-log : tie.Need-slice-aggregate-encode-linear-log
 slice-aggregate-encode-linear-log c = part-long (turns (c .before .before .before .before)) (c .before .before .before .before .before .before .before .pre .0 .few) .1
@@ -66,7 +66,7 @@ encode-turned-spec =
     tie.close
     (tie.spec
     turned-requires
-    array-share-prefix-given
+    array-share-prefix-list
     slice-aggregate-encode-linear-log
     encode-linear-log-requires
     same-length

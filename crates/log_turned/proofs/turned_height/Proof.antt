@@ -22,8 +22,8 @@ turned-requires c κs = (coefs-small (c .args .encodings) (c .args .terms .now) 
 turns : (c : tie.After-turned) → let a = c .before .args in Turns (cmp-op-of (a .op)) (a .constant) (a .terms .now) (c .turned .result)
 turns c = rw (constant-is (c .before)) at (c .turned .ensures)
 
-array-share-prefix-given : tie.Need-array-share-prefix-given
-array-share-prefix-given c = part-long (turns (c .before)) (c .before .before .pre .0 .few) .0
+array-share-prefix-list : tie.Need-array-share-prefix-list
+array-share-prefix-list c = part-long (turns (c .before)) (c .before .before .pre .0 .few) .0
 
 slice-aggregate-linear-height : tie.Need-slice-aggregate-linear-height
 slice-aggregate-linear-height c = part-long (turns (c .before .before)) (c .before .before .before .pre .0 .few) .1
@@ -46,7 +46,7 @@ turned-height-spec =
     tie.close
     (tie.spec
     turned-requires
-    array-share-prefix-given
+    array-share-prefix-list
     slice-aggregate-linear-height
     linear-height-requires
     returns)
