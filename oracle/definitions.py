@@ -38,7 +38,6 @@ KINDS = {
     "heights": "heights",
 }
 OPERATIONS = [name.lower() for name in NAMES]
-TURNED = "(t .op) (t .constant) (t .terms)"
 PER_FILE = 100
 HEAD = """-- Definitions against the judge.
 use mathlib.Core.List.{List, [], _∷_}
@@ -50,19 +49,17 @@ use Rattle.sat.specs.Encoded.{EncodedRule}
 use Rattle.sat.specs.Lit.{neg}
 use Rattle.norm_csp.specs.Domain.{binary, list, range}
 use Rattle.norm_csp.specs.Rules.{LinearTerm, eq, ge, gt, le, lt, ne}
-use Rattle.norm_csp.specs.Turned.{LinearLit, turned}
 use Rattle.log_encoding.specs.EncodeVarLog.{EncodedVar, encode-var-log}
 use Rattle.log_encoding.specs.LogEncoding.{LogEncoding, no-encoding}
 use Rattle.log_encoding.specs.Enumerate.{bounded, enumerate}
 use Rattle.log_encoding.specs.Adder2.{eq-column}
 use Rattle.log_encoding.specs.Column.{column}
-use Rattle.log_encoding.specs.EncodeLinearLog.{encode-linear-log}
 use Rattle.log_encoding.specs.EncodeMulLog.{encode-mul-log}
 use mathlib.Core.Bool.{cond}
 use lib.Dec.{ltb}
 use Rattle.log_encoding.specs.AdderSize.{Reached, height}
 use Rattle.log_encoding.specs.VarSize.{setting-shape}
-use Rattle.log_encoding.specs.LinearSize.{linear-log-reached}
+use Rattle.log_encoding.specs.Turned.{encode-turned, turned-reached}
 use Rattle.log_encoding.specs.MulSize.{mul-reached}
 
 -- heights up to the first above 12
@@ -106,15 +103,14 @@ def expression(word, ints, settings, variables):
     if word == "mul":
         x, y, m = ints
         return f"encode-mul-log {int_map(settings)} {x} {y} {m} {variables}", "EncodedRule"
-    call = f"encode-linear-log {int_map(settings)} {TURNED} {variables}"
-    return f"let t = {turned_sum(ints)} in {call}", "EncodedRule"
+    return f"encode-turned {int_map(settings)} {sum_of(ints)} {variables}", "EncodedRule"
 
 
-def turned_sum(ints):
-    """A sum, turned by definition."""
+def sum_of(ints):
+    """Operation, constant and terms of a sum as it was given."""
     terms = zip(ints[2::2], ints[3::2])
     records = (f"record {{ var = {v}; coef = {integer(c)} }}" for v, c in terms)
-    return f"turned {OPERATIONS[ints[0]]} {integer(ints[1])} {listed(records)}"
+    return f"{OPERATIONS[ints[0]]} {integer(ints[1])} {listed(records)}"
 
 
 def heights(word, ints, settings):
@@ -124,7 +120,7 @@ def heights(word, ints, settings):
         shapes = " ".join(f"(setting-shape (getD {known} {i} no-encoding))" for i in ints)
         return f"tested (mul-reached {shapes})"
     shapes = f"(λ i. setting-shape (getD {known} i no-encoding))"
-    return f"let t = {turned_sum(ints)} in tested (linear-log-reached {shapes} {TURNED})"
+    return f"tested (turned-reached {shapes} {sum_of(ints)})"
 
 
 def answer(word, made, clauses, variables):
