@@ -1,4 +1,9 @@
-"""Lines of a script that cannot be read; each ends the run."""
+"""Lines of a script that cannot be read; each ends the run.
+
+Those of LONG_LINES have one byte too many.
+"""
+
+from script import MAX_BYTES
 
 BAD_LINES = [
     "range 1",
@@ -44,4 +49,32 @@ BAD_LINES = [
     " show",
     "show 1",
     "show ",
+    "solution",
+    "solution ",
+    "solution x",
+    "solution -1",
+    "solution 131073",
+    "solution 4294967296 10",
+    "solution 3 256",
+    "solution 3 -1",
+    "solution 3 99 x",
+    "solution 3 99  10",
+    "solution 3 99 10 ",
+    "solution 3 +9",
+    "solutions 3",
+    "Solution 3",
+    "answer",
+    "answer ",
+    "answer -",
+    "answer -1",
+    "answer 131073",
+    "answer 18446744073709551616",
+    "answer 30 256",
+    "answer 30 -1",
+    "answer 30 0 x",
+    "answer 30  0",
+    "answer 30 0 ",
+    "answers 30",
+    "answe 30",
 ]
+LONG_LINES = [word + " 0" * (MAX_BYTES + 1) for word in ("read 0", "solution 0", "answer 0")]

@@ -1,12 +1,13 @@
-"""The eight calls on a job and two lent stores.
+"""The ten calls on a job and two lent stores.
 
 Checks, refusals, heights and stores are ours; the clauses, variables, setting records and read
-values of an accepted call are the Rust's.
+values of an accepted call are the Rust's. The two calls on a solver's answer are all ours.
 """
 
 from dataclasses import dataclass, field, replace
 from itertools import accumulate
 
+import answers
 import checks
 from heights import MAX_HEIGHT, linear_reached, mul_reached
 from job import BITS, MAX_STORE, MAX_VARIABLES, Job, Setting, well_formed
@@ -15,11 +16,14 @@ from turned import turned_terms
 
 @dataclass
 class Answer:
-    """Number answered, value, part; beside them what a reader may want to see of the call."""
+    """Number answered, value, part, and a further lent slice as the call leaves it.
+
+    Beside them what a reader may want to see of the call."""
 
     status: int
     value: int = 0
     part: list = field(default_factory=list)
+    lent: object = None
     reached: object = None
     setting: object = None
     clauses: object = None
@@ -140,3 +144,24 @@ class Calls:
         if begin > end or end > self.job.literals:
             return Answer(1)
         return Answer(0, part=self.lits[begin:end])
+
+    def solution(self, lent, text):
+        """Reads a solver's text into a lent slice; the value is 1 for an assignment."""
+        if self.malformed():
+            return Answer(1, lent=lent)
+        status, assignment = answers.read(text, self.job.variables)
+        if status == 0 and len(lent) != self.job.variables:
+            status = 16
+        if status != 0 or assignment is None:
+            return Answer(status, lent=lent)
+        return Answer(0, value=1, lent=assignment)
+
+    def answer(self, lent, assignment):
+        """Prints an assignment into a lent slice; the value is the length of the text."""
+        status = self.malformed() or checks.check_assignment(self.job, assignment)
+        if status:
+            return Answer(status, lent=lent)
+        text = list(answers.printed(assignment))
+        if len(text) > len(lent):
+            return Answer(15, lent=lent)
+        return Answer(0, value=len(text), lent=text + lent[len(text) :])

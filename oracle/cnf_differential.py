@@ -20,9 +20,10 @@ from judge import add_driver_option
 CNF = Path(__file__).resolve().parent.parent / "target" / "bin" / "cnf"
 
 
-def add_file_options(parser):
-    """Seeds, how many files each has, and the driver."""
-    parser.add_argument("seeds", type=int, nargs="+", metavar="SEED")
+def add_file_options(parser, seeds=None):
+    """Seeds, those that count where none is given, how many files each has, and the driver."""
+    many = "*" if seeds else "+"
+    parser.add_argument("seeds", type=int, nargs=many, default=seeds, metavar="SEED")
     parser.add_argument("--count", type=int, default=300)
     add_driver_option(parser)
 

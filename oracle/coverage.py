@@ -1,4 +1,5 @@
-"""Counts what a script reaches: calls by number; accepted rules by height and ending; long runs."""
+"""Counts what a script reaches: calls by number; accepted rules by height and ending; long runs;
+texts of a solver by what was found, prints of assignments and those of them that were read back."""
 
 from collections import Counter
 
@@ -19,6 +20,7 @@ class Counted(Script):
         self.reached = Counter()
         self.given = []
         self.accepted = 0
+        self.printed = None
 
     def line(self, line):
         word, *self.given = line.split(b" ")
@@ -29,6 +31,8 @@ class Counted(Script):
     def answered(self, word, answer):
         self.numbers[word, answer.status] += 1
         self.count_run(word, answer.status)
+        if answer.status == 0 and word in ("solution", "answer"):
+            self.count_answer(word, answer)
         if answer.status == 0 and word in ("linear", "mul"):
             given = [int(number) for number in self.given]
             endings = sum_endings if word == "linear" else self.product_endings
@@ -43,6 +47,18 @@ class Counted(Script):
         self.accepted += status == 0
         if status == 0 and self.accepted in LONG:
             self.reached["jobs", f"with {self.accepted} accepted calls and more"] += 1
+
+    def count_answer(self, word, answer):
+        """An accepted text; an accepted print, and whether reading it yields the same bytes."""
+        given = [int(number) for number in self.given[1:]]
+        if word == "answer":
+            self.reached["prints", "accepted"] += 1
+            self.printed = (answer.lent[: answer.value], given)
+            return
+        self.reached["texts", "an assignment" if answer.value else "none"] += 1
+        if self.printed == (given, answer.lent):
+            self.reached["prints", "read back"] += 1
+            self.printed = None
 
     def product_endings(self, given, answer):
         """What an accepted product is counted as."""

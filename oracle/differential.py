@@ -5,7 +5,8 @@
 
 For each kind of scripts.py and each seed there is one script of COUNT lines, the same one that
 scripts.py writes. Every job in it ends in `show`, so that all records and entries are compared.
-Printed are the differences, the calls of each kind, and what they reached (see coverage.py).
+Printed are the differences, the calls of each kind, and what they reached (see coverage.py); each
+accepted print of an assignment must have been read back.
 """
 
 import argparse
@@ -39,9 +40,9 @@ def difference(expected, got):
     return f"line {number}: the judge {str(right)[:100]}, the program {str(wrong)[:100]}"
 
 
-def answer_of(program, data):
+def answer_of(program, data, *words):
     """What a program prints for an input; one that fails is said to."""
-    answer = subprocess.run([program], input=data, capture_output=True, check=False)
+    answer = subprocess.run([program, *words], input=data, capture_output=True, check=False)
     return answer.stdout if answer.returncode == 0 else f"ended with {answer.returncode}".encode()
 
 
@@ -80,9 +81,10 @@ def main():
             calls += sum(judge.numbers.values())
         print(f"{kind:10}{calls} calls", flush=True)
     report(numbers, reached)
-    print(f"scripts that differ: {differences}")
+    unread = reached["prints", "accepted"] - reached["prints", "read back"]
+    print(f"scripts that differ: {differences}, prints not read back: {unread}")
     driver.close()
-    sys.exit(1 if differences else 0)
+    sys.exit(1 if differences or unread else 0)
 
 
 if __name__ == "__main__":

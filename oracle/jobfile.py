@@ -92,6 +92,10 @@ def dimacs(job, lits, ends):
     return lines
 
 
+def refusal_line(refusal):
+    return "refused {} {}".format(*refusal.args)
+
+
 def answer(driver, data, kind=Calls):
     """The print of a job file, and its calls on the stores of a job file."""
     calls = kind(driver, *STORES)
@@ -99,7 +103,7 @@ def answer(driver, data, kind=Calls):
         run_fields(calls, data)
         lines = dimacs(calls.job, calls.lits, calls.ends)
     except Refused as refusal:
-        lines = ["refused {} {}".format(*refusal.args)]
+        lines = [refusal_line(refusal)]
     return "".join(line + "\n" for line in lines).encode(), calls
 
 

@@ -3,7 +3,7 @@
 `mul` comes up only where it cannot be read.
 """
 
-from badlines import BAD_LINES
+from badlines import BAD_LINES, LONG_LINES
 from job import BITS, JOB_NUMBERS, RECORD_NUMBERS
 from script import MAX_BYTES, MAX_INTEGERS
 
@@ -51,6 +51,20 @@ GOOD_LINES = [
     f"ends 4095 {U32}",
     "job" + " 0" * JOB_NUMBERS,
     "show",
+    "solution 0",
+    "solution -0",
+    "solution 0003",
+    "solution 3 255 -0 000000010",
+    "solution 0 115 32 83 65 84 73 83 70 73 65 66 76 69 10 118 32 48 10",
+    "solution 131072",
+    "solution 0" + " 0" * MAX_BYTES,
+    "answer 0",
+    "answer -0",
+    "answer 18",
+    "answer 00017",
+    "answer 19 -0",
+    "answer 3 255 000 01",
+    "answer 131072",
 ]
 
 WORDS = ["Show", "shows", "sho", "s", "show0", "showshow", "showshows", "s" * 300]
@@ -95,7 +109,11 @@ def lines():
     texts += ["lits 8192 0", "ends 4096 0", "lits 0", "lits 0 0 0", "ends -1 0", f"ends {U32} 0"]
     texts += ["clause 0 0", "binary 0 0 1 2", f"binary {U32 + 1} 0 1", f"binary 0 {I32 + 1} 0"]
     texts += ["stores", "stores 1 2 3", "stores -1 0", "stores 524289 131072", "stores 0 131073"]
-    texts += ["read -1", "read 0" + " 0" * (MAX_BYTES + 1), "list" + " 0" * (MAX_INTEGERS + 1)]
+    texts += ["read -1", LONG_LINES[0], "list" + " 0" * (MAX_INTEGERS + 1)]
     texts += [f"linear 0 0 {token}" for token in TOKENS + LARGE] + LINEAR + MUL
+    for word in ("solution", "answer"):
+        texts += [f"{word} {token}" for token in TOKENS + LARGE]
+        texts += [f"{word} 2 1 {token} 0" for token in TOKENS + LARGE]
+    texts.append(LONG_LINES[-1])
     texts += [*job_lines(), "open 7"]
     return [text.encode() for text in texts]

@@ -4,9 +4,10 @@
   replay_vectors.py SEED [DIRECTORY]   writes stdin and stdout of DIRECTORY/replay and of
                                        DIRECTORY/replay_lines (crates if absent)
 
-The script for replay is made of chapters (replay_chapters.py, replay_sums.py, replay_products.py),
-then of random scripts, and ends in a line that cannot be read. Each line for replay_lines is
-answered as a script of its own (replay_lines.py). What was reached is printed (coverage.py).
+The script for replay is made of chapters (replay_chapters.py, replay_sums.py, replay_products.py,
+replay_answers.py), then of random scripts, and ends in a line that cannot be read. Each line for
+replay_lines is answered as a script of its own (replay_lines.py). What was reached is printed
+(coverage.py).
 """
 
 import argparse
@@ -14,6 +15,7 @@ import io
 import random
 from pathlib import Path
 
+import replay_answers
 import replay_chapters
 import replay_lines
 import replay_products
@@ -29,18 +31,26 @@ DIRECTORY = Path(__file__).resolve().parent.parent / "crates"
 RANDOM = {"settings": 150, "edges": 200, "space": 150, "forged": 110}
 RANDOM |= {"linear": 150, "eq": 100, "ne": 100, "ge": 100, "heights": 60, "dead": 150}
 RANDOM |= {"le": 60, "lt": 60, "gt": 60}
-RANDOM |= {"mul": 60, "shifted": 40, "same": 40}
+RANDOM |= {"mul": 60, "shifted": 40, "same": 40, "answers": 80}
 LONGEST = 2_000
 END = ["", "", "range 0 x", "show", "open 1"]
 
 
+def is_kept(line):
+    """Whether a random line is stored: not if it changes nothing and it or its answer is long."""
+    word, *numbers = line.split(" ")
+    if word not in ("read", "solution", "answer"):
+        return True
+    lent = 0 if word == "read" else int(numbers[0])
+    return len(line) <= LONGEST and lent <= LONGEST
+
+
 def random_lines(driver, seed):
-    """Random scripts; a reading changes nothing, so one with a very long line is left out."""
+    """The lines of random scripts."""
     lines = []
     for kind, count in RANDOM.items():
         generator = Generator(kind, random.Random(f"{kind} {seed}"), driver)
-        drawn = generator.run(count)
-        lines += [line for line in drawn if not (line.startswith("read") and len(line) > LONGEST)]
+        lines += filter(is_kept, generator.run(count))
     return lines
 
 
@@ -67,6 +77,7 @@ def main():
     lines = replay_chapters.lines(driver)
     lines += replay_sums.lines(driver, random.Random(f"sums {options.seed}"))
     lines += replay_products.lines(driver)
+    lines += replay_answers.lines(driver)
     lines += random_lines(driver, options.seed)
     data = "".join(line + "\n" for line in lines + END).encode()
     script = Counted(driver)

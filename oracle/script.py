@@ -16,10 +16,12 @@ from job import JOB_NUMBERS, RECORD_NUMBERS, job_of
 U32 = (0, 2**32 - 1)
 I32 = (-(2**31), 2**31 - 1)
 U8 = (0, 255)
+LENGTH = (0, 131_072)
 STORES = (8_192, 4_096)
 MAX_STORES = (524_288, 131_072)
 MAX_INTEGERS = 4_096
 MAX_BYTES = 65_536
+BEFORE = 7  # each byte of a slice that is lent for a solver's answer or its print
 
 # Word: types of its fixed integers, then type and greatest count of the list that follows.
 FORMS = {
@@ -36,6 +38,8 @@ FORMS = {
     "lits": ([U32, U32], None, 0),
     "ends": ([U32, U32], None, 0),
     "show": ([], None, 0),
+    "solution": ([LENGTH], U8, MAX_BYTES),
+    "answer": ([LENGTH], U8, MAX_BYTES),
 }
 assert len(FORMS["job"][0]) == JOB_NUMBERS
 
@@ -107,6 +111,8 @@ class Script:
             return [job, spaced("lits", calls.lits), spaced("ends", calls.ends)]
         if word in ("list", "linear", "read"):
             head = [*head, tail]
+        if word in ("solution", "answer"):
+            head = [[BEFORE] * head[0], bytes(tail)]
         return self.answered(word, getattr(calls, word)(*head))
 
     def answered(self, word, answer):
@@ -115,6 +121,8 @@ class Script:
         text = spaced(str(answer.status), numbers)
         if word == "clause" and answer.status == 0:
             text = spaced(text + " :", answer.part)
+        if answer.lent is not None:
+            text = spaced(text + " :", answer.lent)
         return [text, *(details(answer) if self.verbose else [])]
 
     def run(self, data, out):

@@ -15,18 +15,22 @@ With --show, every job ends in `show`, so that all records and entries are compa
   edges     arguments at and over every bound
   space     small stores, and jobs near the last variable
   forged    jobs and store entries given as numbers, well formed or not
+  answers   a solver's texts, whole and damaged, and prints of assignments, each read back
   bad       ends in a line that cannot be read
 """
 
 import argparse
 import random
 
+import answers
 import arguments
 import forged
-from badlines import BAD_LINES
+import texts
+from badlines import BAD_LINES, LONG_LINES
 from driver import Driver
+from job import Job
 from judge import add_driver_option
-from script import BadLine, Script, spaced
+from script import LENGTH, MAX_BYTES, BadLine, Script, spaced
 from turned import EQ, GE, GT, LE, LT, NE, OPERATIONS
 
 LARGE = (524_288, 131_072)
@@ -58,6 +62,7 @@ WEIGHTS = {
     "forged": dict(
         forge=4, entry=2, range=1, list=1, binary=1, linear=3, mul=2, read=2, clause=4, show=1
     ),
+    "answers": dict(solution=20, answer=6, forge=3, many=1, range=1, binary=1, linear=1),
     "bad": dict(range=1, linear=1, mul=1, read=1, clause=1),
 }
 ONLY = {"eq": EQ, "ne": NE, "ge": GE, "le": LE, "lt": LT, "gt": GT, "dead": EQ}
@@ -93,22 +98,24 @@ class Generator:
             self.put("show")
         if self.kind == "space":
             self.put("stores", rng.choice([0, 1, rng.randint(0, 400)]), rng.randint(0, 120))
-        elif self.kind == "small":
+        elif self.kind in ("small", "answers"):
             self.put("stores", 20_000, 5_000)
         elif self.lines == []:
             self.put("stores", *LARGE)
         switches = {"small": rng.randint(0, 2)}.get(self.kind, rng.choice([1, 3, 20, 64]))
+        if self.kind == "answers":
+            switches = rng.choice([0, 0, 1, 2, 3, 8, 9, 10, 11, 30, 64])
         self.put("open", switches)
-        prepared = {"small": 2, "space": 0, "forged": 0}.get(self.kind, PREPARED)
+        prepared = {"small": 2, "space": 0, "forged": 0, "answers": 0}.get(self.kind, PREPARED)
         for _ in range(prepared):
             getattr(self, "call_" + rng.choice(["range", "range", "list", "binary"]))()
 
     def crowded(self):
         """Whether the job is old or full enough for a new one."""
-        runs = {"small": 5, "space": 12, "forged": 30, "settings": 32, "long": 150}
+        runs = {"small": 5, "space": 12, "forged": 30, "settings": 32, "long": 150, "answers": 12}
         calls = self.script.calls
         room = len(calls.lits) - self.job.literals
-        full = room < 60_000 and self.kind not in ("small", "space", "forged")
+        full = room < 60_000 and self.kind not in ("small", "space", "forged", "answers")
         return full or self.age >= runs.get(self.kind, RUN)
 
     def call_range(self):
@@ -185,6 +192,27 @@ class Generator:
         near = [0, max(0, clauses - 1), clauses, self.rng.randint(0, clauses)]
         return self.put("clause", self.rng.choice(near))
 
+    def call_solution(self):
+        _, text, length = texts.drawn(self.rng, self.job.variables)
+        return self.put("solution", length, *text)
+
+    def call_answer(self):
+        """A print; one that is accepted is read back, so there is none without readings."""
+        if "solution" in self.without:
+            return
+        rng, job = self.rng, self.job
+        draw = rng.choice([arguments.assignment] * 3 + [arguments.edge_assignment])
+        assignment = draw(rng, job)
+        text = answers.printed(assignment)
+        near = [len(text)] * 3 + [len(text) - 1, len(text) + 1, len(text) + rng.randrange(99), 0]
+        (told,) = self.put("answer", min(rng.choice(near), LENGTH[1]), *assignment)
+        if told.startswith("0 ") and len(text) <= MAX_BYTES:
+            self.put("solution", job.variables, *text)
+
+    def call_many(self):
+        """A job of many variables and nothing else."""
+        self.put("job", *Job(variables=self.rng.randint(90, texts.MOST)).numbers())
+
     def call_edge(self):
         """A call at or over a bound."""
         rng, job = self.rng, self.job
@@ -260,7 +288,7 @@ class Generator:
         return self.lines
 
     def end_badly(self):
-        bad = self.rng.choice(BAD_LINES)
+        bad = self.rng.choice(BAD_LINES + LONG_LINES)
         try:
             self.script.line(bad.encode())
         except BadLine:

@@ -1,5 +1,6 @@
 #!/usr/bin/env python3
-"""Checks the judge against the bench values and, on small jobs, against the plain book.
+"""Checks the judge against the bench values, points of the solver's answer written by hand
+(answer_points.py) and, on small jobs, the plain book.
 
   selfcheck.py [--seed SEED] [--jobs JOBS]
 """
@@ -8,6 +9,7 @@ import argparse
 import io
 import random
 
+import answer_points
 import jobfile
 from book import Book, agrees, written
 from driver import Driver
@@ -126,6 +128,9 @@ def main():
     driver = Driver(options.driver)
     faults = check_bench(driver) + check_example(driver)
     print(f"bench values and example: {len(BENCH) + 1}, faults: {len(faults)}")
+    told, points = answer_points.faults(options.seed, options.jobs)
+    print(f"points of a solver's answer, texts read in two manners: {points}, faults: {len(told)}")
+    faults += told
     rules = choices = satisfiable = 0
     for seed in range(options.seed, options.seed + options.jobs):
         right, job_rules, job_choices, lines = check_job(driver, seed)

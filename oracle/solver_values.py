@@ -74,6 +74,11 @@ def checked(solvers, data, calls, text, counts):
     return [f"{solver}: {fault}" for solver, faults in rows for fault in faults]
 
 
+def examples():
+    """Names and bytes of the sheets."""
+    return [(path.name, path.read_bytes()) for path in sorted(EXAMPLES.glob("*.job"))]
+
+
 def main():
     parser = argparse.ArgumentParser(description="Asks solvers for a value of each variable.")
     add_file_options(parser)
@@ -81,8 +86,7 @@ def main():
     parser.add_argument("--solver", nargs="+", default=SOLVERS)
     options = parser.parse_args()
     driver = Driver(options.driver)
-    examples = [(path.name, path.read_bytes()) for path in sorted(EXAMPLES.glob("*.job"))]
-    files = chain(examples, random_files(driver, options))
+    files = chain(examples(), random_files(driver, options))
     check_files(driver, files, options.cnf, partial(checked, options.solver))
 
 

@@ -33,6 +33,7 @@ use Rattle.encoder_linear.specs.Sums.{linear-checks, sum-encoded}
 use Rattle.encoder_env.specs.declared.EncoderEnv.{EncoderEnv}
 use Rattle.encoder_answer.specs.Outcome.{Check, Outcome, settled, status-of}
 use Rattle.encoder_read.proofs.Acceptance.{read-accepted}
+use Rattle.encoder_read.proofs.Known.{bits-at}
 use Rattle.encoder_answer.proofs.Statuses.{settled-accepted, settled-known, settled-refused}
 use Rattle.encoder.specs.Faithful.{Demand3, ExactlyOne, Faithful, ReadsBack, Satisfies, written}
 use Rattle.encoder.specs.Run.{Call, State, answered, book, clause, encode-binary, encode-linear, encode-list, encode-mul, encode-range, enter, feed, get-int-value, left, outcome, run}
@@ -54,12 +55,6 @@ module _ {A : Type 0} where
   first-at zero f d x h = absurd (omega arith)
   first-at (suc n) f d zero h = refl
   first-at (suc n) f d (suc x) h = first-at n (λ i. f (suc i)) d x (omega arith)
-
--- bytes of 0 and 1, place by place
-bits-at : (bytes : List ℕ) (i : ℕ) → Bits bytes → getD bytes i 0 ≤ 1
-bits-at [] i b = omega arith
-bits-at (x ∷ bytes) zero b = omega (arith, b .0)
-bits-at (x ∷ bytes) (suc i) b = bits-at bytes i (b .1)
 
 -- From the invariant to the statement --------------------------------------------------------------------------------
 

@@ -108,7 +108,7 @@ pub fn clause<'a>(
 }
 
 // Whether every byte is 0 or 1.
-fn all_bits(assignment: &[u8]) -> bool
+pub fn all_bits(assignment: &[u8]) -> bool
     ensures { λ r. ⌜ r ≡ all-bits (now (assignment .entry)) ⌝ }
 {
     let mut i: usize = 0;

@@ -17,7 +17,7 @@ use Rattle.lines.specs.declared.Numeral.the-variants.{Empty}
 use Rattle.lines.specs.declared.Word.{Word}
 use Rattle.lines.specs.Numerals.{numeral-from, numeral-integer, numeral-more, token-integer}
 use Rattle.lines.specs.Lines.{Lined, Numbered, keep, line-from, line-more, line-start, line-whole, lined, number-more, number-whole, numbered, spoiled, stored, with-numbers, word-more}
-use Rattle.lines.specs.Reading.{Read, ahead, integers, later-pieces, numbers-of, pieces, read-of, tokens-of, unread, with-first}
+use Rattle.lines.specs.Reading.{Read, ahead, integers, later-pieces, numbers-of, pieces, read-of, split, tokens-of, unread, with-first}
 use Rattle.lines.proofs.Steps.{keep-full, keep-outside, keep-value}
 use Rattle.lines.proofs.Tokens.{token-reads}
 
@@ -42,7 +42,7 @@ join-ahead p b [] = refl
 join-ahead p b (q ∷ qs) = rw (append-assoc p (b ∷ []) q)
 
 join-none : (bs : List ℕ) → join [] (pieces bs) ≡ pieces bs
-unfolding pieces
+unfolding split
 join-none [] = refl
 join-none (b ∷ bs) = by (eqb b 32) (pieces bs)
   where
@@ -169,13 +169,13 @@ abbrev Reads-from : Numbered → List ℕ → List ℕ → Type 0
 Reads-from g p bs = read-of (number-whole (number-from g bs)) ≡ rest-of g (join p (pieces bs))
 
 reads-end : (g : Numbered) (p : List ℕ) → Ended g p → Reads-from g p []
-unfolding number-from pieces read-of
+unfolding number-from split read-of
 reads-end g p (kept z e k r) = rw (append-nil p, r [], e) (read-none (stored z g) (k .good))
 reads-end g p (lost e r) = rw (append-nil p, r [], e)
 
 reads-space : (g : Numbered) (p : List ℕ) (b : ℕ) (bs : List ℕ) → eqb b 32 ≡ true → Ended g p
     → ((h : Numbered) → Going h [] → Reads-from h [] bs) → Reads-from g p (b ∷ bs)
-unfolding number-from pieces
+unfolding number-from split
 reads-space g p b bs s (kept z e k r) f =
     rw (s, append-nil p, r (pieces bs), more-space g b s, e, f (stored z g) k, join-none bs)
 reads-space g p b bs s (lost e r) f =
@@ -183,7 +183,7 @@ reads-space g p b bs s (lost e r) f =
 
 reads-byte : (g : Numbered) (p : List ℕ) (b : ℕ) (bs : List ℕ) → eqb b 32 ≡ false
     → Reads-from (number-more g b) (p ++ (b ∷ [])) bs → Reads-from g p (b ∷ bs)
-unfolding number-from pieces
+unfolding number-from split
 reads-byte g p b bs s r = rw s (r ∙ (more-rest g b (join (p ++ (b ∷ [])) (pieces bs)) s ∙ ap (rest-of g) (sym (join-ahead p b (pieces bs)))))
 
 reads-from : (g : Numbered) (p bs : List ℕ) → Going g p → Reads-from g p bs
@@ -224,7 +224,7 @@ behind-empty : (r : Read) → behind [] r ≡ r
 behind-empty (integers zs) = refl
 behind-empty unread = refl
 
-later-ahead : (b : ℕ) (ps : List (List ℕ)) → later-pieces (ahead b ps) ≡ later-pieces ps
+pub later-ahead : (b : ℕ) (ps : List (List ℕ)) → later-pieces (ahead b ps) ≡ later-pieces ps
 later-ahead b [] = refl
 later-ahead b (p ∷ ps) = refl
 
@@ -241,7 +241,7 @@ abbrev Line-reads : List ℤ → Word → List ℕ → Type 0
 Line-reads xs w bs = read-of (numbers-at (line-whole (line-from (worded xs w) bs))) ≡ numbers-of (length xs) (tokens-of bs)
 
 line-space : (xs : List ℤ) (w : Word) (b : ℕ) (bs : List ℕ) → eqb b 32 ≡ true → Line-reads xs w (b ∷ bs)
-unfolding line-from pieces
+unfolding line-from split
 line-space xs w b bs e =
     let g : Numbered = numbered xs (record { count = 0; good = true; numeral = Empty }) in
     let z : length xs - 0 ≡ length xs = omega arith in
@@ -250,11 +250,11 @@ line-space xs w b bs e =
     (behind-empty (numbers-of (length xs) (pieces bs)))
 
 line-byte : (xs : List ℤ) (w : Word) (b : ℕ) (bs : List ℕ) → eqb b 32 ≡ false → Line-reads xs (word-more w b) bs → Line-reads xs w (b ∷ bs)
-unfolding line-from pieces
+unfolding line-from split
 line-byte xs w b bs e r = rw (e, worded-byte xs w b e, later-ahead b (pieces bs)) r
 
 line-none : (xs : List ℤ) (w : Word) → Line-reads xs w []
-unfolding line-from line-whole read-of numbers-of pieces
+unfolding line-from line-whole read-of numbers-of split
 line-none xs w = refl
 
 line-reads-from : (xs : List ℤ) (w : Word) (bs : List ℕ) → Line-reads xs w bs

@@ -12,7 +12,7 @@ use borrow.Author.Tests.{ltb-true, ltb-false, leb-true, le-leb, eqb-true, eqb-fa
 use Rattle.lines.specs.declared.Numeral.the-variants.{Empty}
 use Rattle.lines.specs.declared.Word.{Word}
 use Rattle.lines.specs.Lines.{Lined, is-empty, is-word, line-from, line-more, line-start, lined, number-more, numbered, same-below, with-numbers, word-more}
-use Rattle.lines.specs.Reading.{ahead, first-piece, pieces, word-of}
+use Rattle.lines.specs.Reading.{ahead, first-piece, pieces, split, word-of}
 use Rattle.lines.proofs.Steps.{and-left, and-right}
 use Rattle.lines.proofs.Reading.{from-behind, worded, worded-byte, worded-space}
 
@@ -67,7 +67,7 @@ spelled-more w p b s = by (ltb (w .len) 8) refl
     by true e = rw e (spelled-kept w p b s (ltb-true (w .len) 8 e))
     by false e = rw e (spelled-long w p b s (ltb-false (w .len) 8 e))
 
-first-ahead : (b : ℕ) (ps : List (List ℕ)) → first-piece (ahead b ps) ≡ b ∷ first-piece ps
+pub first-ahead : (b : ℕ) (ps : List (List ℕ)) → first-piece (ahead b ps) ≡ b ∷ first-piece ps
 first-ahead b [] = refl
 first-ahead b (p ∷ ps) = refl
 
@@ -75,15 +75,15 @@ abbrev word-at : List ℤ → Word → List ℕ → Word
 word-at xs w bs = line-from (worded xs w) bs .line .word
 
 word-none : (xs : List ℤ) (w : Word) (p : List ℕ) → Spelled w p → Spelled (word-at xs w []) (p ++ word-of [])
-unfolding line-from pieces
+unfolding line-from split
 word-none xs w p s = rw (append-nil p) s
 
 piece-space : (b : ℕ) (bs : List ℕ) → eqb b 32 ≡ true → word-of (b ∷ bs) ≡ []
-unfolding pieces
+unfolding split
 piece-space b bs e = rw e
 
 piece-byte : (b : ℕ) (bs : List ℕ) → eqb b 32 ≡ false → word-of (b ∷ bs) ≡ b ∷ word-of bs
-unfolding pieces
+unfolding split
 piece-byte b bs e = rw e (first-ahead b (pieces bs))
 
 word-space : (xs : List ℤ) (w : Word) (b : ℕ) (bs : List ℕ) → eqb b 32 ≡ true → word-at xs w (b ∷ bs) ≡ w

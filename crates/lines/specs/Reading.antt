@@ -15,10 +15,14 @@ abbrev pub ahead : ℕ → List (List ℕ) → List (List ℕ)
 ahead b [] = (b ∷ []) ∷ []
 ahead b (p ∷ ps) = (b ∷ p) ∷ ps
 
+-- the pieces between the bytes that equal `sep`, and the last one behind them
+unfoldable pub split : ℕ → List ℕ → List (List ℕ)
+split sep [] = [] ∷ []
+split sep (b ∷ bs) = cond (eqb b sep) ([] ∷ split sep bs) (ahead b (split sep bs))
+
 -- the pieces of a line between its spaces
-unfoldable pub pieces : List ℕ → List (List ℕ)
-pieces [] = [] ∷ []
-pieces (b ∷ bs) = cond (eqb b 32) ([] ∷ pieces bs) (ahead b (pieces bs))
+abbrev pub pieces : List ℕ → List (List ℕ)
+pieces bs = split 32 bs
 
 -- the first piece is the line's word, the others are its tokens
 abbrev pub first-piece : List (List ℕ) → List ℕ

@@ -34,7 +34,8 @@ pub enum Integer {
     Outside,
 }
 
-fn is_digit(b: u8) -> bool
+// Whether b is a digit in ASCII.
+pub fn is_digit(b: u8) -> bool
     ensures { λ r. ⌜ r ≡ is-digit b ⌝ }
 {
     if b < b'0' {

@@ -61,6 +61,28 @@ pub fn entries(store: &[u32]) -> bool {
     flush(&out, at)
 }
 
+fn wide(b: u8) -> u32 {
+    b as u32
+}
+
+// A colon, and the bytes of a lent slice, each behind a space.
+pub fn bytes(slice: &[u8]) -> bool {
+    let mut out = [0u8; 4096];
+    let mut at = text::put_bytes(&mut out, 0, b" :");
+    let mut i: usize = 0;
+    while i < slice.len() {
+        if at > 4080 {
+            if !flush(&out, at) {
+                return false;
+            }
+            at = 0;
+        }
+        at = put_number(&mut out, at, wide(slice[i]));
+        i += 1;
+    }
+    flush(&out, at)
+}
+
 // A record: its literals, length, low, high and offset.
 fn encoding(e: LogEncoding) -> bool {
     let mut out = [0u8; 256];

@@ -52,6 +52,26 @@ fn clause(nums: &[i64], env: EncoderEnv, lits: &[u32], ends: &[u32]) -> Answered
     read_line(env, written)
 }
 
+// `solution LEN BYTE..`, which reads a solver's answer, or `answer LEN BYTE..`, which prints an assignment: the lent slice has 7 in each byte
+// before, and is printed as the call left it.
+fn lent(reads: bool, nums: &[i64], env: EncoderEnv, lits: &[u32], ends: &[u32]) -> Answered {
+    let mut bytes = [0u8; 65536];
+    let mut slice = [7u8; 131072];
+    let given = script_calls::given_of(nums, &mut bytes);
+    if !given.good {
+        return bad(env);
+    }
+    let n = given.len;
+    let m = given.count;
+    let called = if reads {
+        script_calls::solution(env, lits, ends, &bytes[..m], &mut slice[..n])
+    } else {
+        script_calls::answer(env, lits, ends, &bytes[..m], &mut slice[..n])
+    };
+    let written = print::answer(called.status, called.value, env) && print::bytes(&slice[..n]);
+    read_line(env, written && print::text(b"\n"))
+}
+
 // `job ..`
 fn job(nums: &[i64], env: EncoderEnv) -> Answered {
     if script_state::is_job(nums) {
@@ -112,6 +132,12 @@ pub fn answer(
     }
     if lines::is_word(word, b"clause") {
         return clause(nums, env, lits, ends);
+    }
+    if lines::is_word(word, b"solution") {
+        return lent(true, nums, env, lits, ends);
+    }
+    if lines::is_word(word, b"answer") {
+        return lent(false, nums, env, lits, ends);
     }
     if lines::is_word(word, b"job") {
         return job(nums, env);

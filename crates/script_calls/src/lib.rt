@@ -1,6 +1,11 @@
 // A line of a script as a call of the encoder, on the job and the lent stores: every call but `clause`. Nothing is printed.
+mod answers;
 mod rules;
 
+pub use answers::Called;
+pub use answers::answer;
+pub use answers::given_of;
+pub use answers::solution;
 use encoder::Answer;
 use encoder::encode_linear;
 use encoder::encode_mul;

@@ -1,0 +1,5 @@
+pub mod Splits
+pub mod Numerals
+pub mod RoundTrip
+pub mod Assignment
+pub mod Examples

@@ -1,0 +1,39 @@
+-- `solver_print::put_signed` meets its contract.
+use borrow.Author.Needs.{needs}
+use Rattle.solver_print.proofs.Printing.{wrote-false, wrote-true}
+use Rattle.solver_print.proofs.put_signed.Statement.{statement}
+use Rattle.solver_print.proofs.put_signed.Tie as tie
+
+put-requires : tie.Need-put-requires
+put-requires c κs = search needs
+
+put-decimal-requires : tie.Need-put-decimal-requires
+put-decimal-requires c κs = search needs
+
+same-length : tie.Need-same-length
+same-length c = search needs
+
+returns : tie.Need-returns
+returns c =
+    wrote-false _ _ _ (c .before .before .before .before .before .before .before .before .if1 .taken) (c .before .before .before .before .before .before .put .ensures) (c .before .before .put-decimal .ensures)
+
+put-decimal-requires-2 : tie.Need-put-decimal-requires-2
+put-decimal-requires-2 c κs = search needs
+
+same-length-2 : tie.Need-same-length-2
+same-length-2 c = search needs
+
+returns-2 : tie.Need-returns-2
+returns-2 c = wrote-true _ _ _ (c .before .before .before .before .if1 .left) (c .before .before .put-decimal2 .ensures)
+
+pub put-signed-spec : {M : Type 1} → statement M
+put-signed-spec =
+    tie.close
+    (tie.spec
+    put-requires
+    put-decimal-requires
+    same-length
+    returns
+    put-decimal-requires-2
+    same-length-2
+    returns-2)

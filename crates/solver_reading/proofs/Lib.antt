@@ -1,0 +1,6 @@
+pub mod Taking
+pub mod LineSteps
+pub mod Ends
+pub mod Whole
+pub mod Given
+pub mod Answers

@@ -1,0 +1,4 @@
+pub mod Examples
+pub mod Printing
+pub mod Read
+pub mod Sizes
