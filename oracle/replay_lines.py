@@ -64,7 +64,6 @@ GOOD_LINES = [
     "answer 00017",
     "answer 19 -0",
     "answer 3 255 000 01",
-    "answer 131072",
 ]
 
 WORDS = ["Show", "shows", "sho", "s", "show0", "showshow", "showshows", "s" * 300]
@@ -114,6 +113,5 @@ def lines():
     for word in ("solution", "answer"):
         texts += [f"{word} {token}" for token in TOKENS + LARGE]
         texts += [f"{word} 2 1 {token} 0" for token in TOKENS + LARGE]
-    texts.append(LONG_LINES[-1])
     texts += [*job_lines(), "open 7"]
     return [text.encode() for text in texts]

@@ -1,4 +1,7 @@
 // One line of a script: what its word asks for, on the job and the lent stores.
+ghost use mathlib.Core.Path.{_≡_};
+ghost use lib.ListN.{length};
+ghost use Prim.Native.Nat.{_≤_};
 use super::print;
 use encoder_env::EncoderEnv;
 use lines::Unsigned;
@@ -52,24 +55,61 @@ fn clause(nums: &[i64], env: EncoderEnv, lits: &[u32], ends: &[u32]) -> Answered
     read_line(env, written)
 }
 
-// `solution LEN BYTE..`, which reads a solver's answer, or `answer LEN BYTE..`, which prints an assignment: the lent slice has 7 in each byte
-// before, and is printed as the call left it.
-fn lent(reads: bool, nums: &[i64], env: EncoderEnv, lits: &[u32], ends: &[u32]) -> Answered {
-    let mut bytes = [0u8; 65536];
-    let mut slice = [7u8; 131072];
-    let given = script_calls::given_of(nums, &mut bytes);
+// The call with these bytes and this lent slice, which is printed as the call left it.
+fn called(
+    reads: bool,
+    env: EncoderEnv,
+    lits: &[u32],
+    ends: &[u32],
+    bytes: &[u8],
+    slice: &mut [u8],
+) -> Answered
+    requires { ⌜ length (now slice) ≤ 131072 ⌝ }
+{
+    let c = script_calls::lent(reads, env, lits, ends, bytes, slice);
+    let written = print::answer(c.status, c.value, env) && print::bytes(slice);
+    read_line(env, written && print::text(b"\n"))
+}
+
+// `LEN BYTE..`: the bytes go into `bytes`, and the first LEN of `slice` are lent.
+fn lent_of(
+    reads: bool,
+    nums: &[i64],
+    env: EncoderEnv,
+    lits: &[u32],
+    ends: &[u32],
+    bytes: &mut [u8],
+    slice: &mut [u8],
+) -> Answered
+    requires { ⌜ length (now slice) ≡ 131072 ⌝ }
+{
+    let given = script_calls::given_of(nums, bytes);
     if !given.good {
         return bad(env);
     }
     let n = given.len;
     let m = given.count;
-    let called = if reads {
-        script_calls::solution(env, lits, ends, &bytes[..m], &mut slice[..n])
-    } else {
-        script_calls::answer(env, lits, ends, &bytes[..m], &mut slice[..n])
-    };
-    let written = print::answer(called.status, called.value, env) && print::bytes(&slice[..n]);
-    read_line(env, written && print::text(b"\n"))
+    called(reads, env, lits, ends, &bytes[..m], &mut slice[..n])
+}
+
+// The arrays' types say how long they are, so that the check does not count their entries.
+fn lent_in_arrays(
+    reads: bool,
+    nums: &[i64],
+    env: EncoderEnv,
+    lits: &[u32],
+    ends: &[u32],
+    bytes: &mut [u8; 65536],
+    slice: &mut [u8; 131072],
+) -> Answered {
+    lent_of(reads, nums, env, lits, ends, bytes, slice)
+}
+
+// `solution LEN BYTE..`, which reads a solver's answer, or `answer LEN BYTE..`, which prints an assignment. Each byte lent is 7 before.
+fn lent(reads: bool, nums: &[i64], env: EncoderEnv, lits: &[u32], ends: &[u32]) -> Answered {
+    let mut bytes = [0u8; 65536];
+    let mut slice = [7u8; 131072];
+    lent_in_arrays(reads, nums, env, lits, ends, &mut bytes, &mut slice)
 }
 
 // `job ..`

@@ -53,13 +53,7 @@ pub struct Called {
 }
 
 // Reads a solver's answer: the value is 1 for an assignment.
-pub fn solution(
-    env: EncoderEnv,
-    lits: &[u32],
-    ends: &[u32],
-    text: &[u8],
-    slice: &mut [u8],
-) -> Called {
+fn solution(env: EncoderEnv, lits: &[u32], ends: &[u32], text: &[u8], slice: &mut [u8]) -> Called {
     let answer = encoder::read_answer(env, lits, ends, text, slice);
     match answer {
         Solution::Assignment => Called {
@@ -75,7 +69,7 @@ pub fn solution(
 }
 
 // Prints an assignment: the value is the length of the text.
-pub fn answer(
+fn answer(
     env: EncoderEnv,
     lits: &[u32],
     ends: &[u32],
@@ -92,4 +86,21 @@ pub fn answer(
         },
         PrintedAnswer::Refused(status) => Called { status, value: 0 },
     }
+}
+
+// Either of the two.
+pub fn lent(
+    reads: bool,
+    env: EncoderEnv,
+    lits: &[u32],
+    ends: &[u32],
+    bytes: &[u8],
+    slice: &mut [u8],
+) -> Called
+    requires { ⌜ length (now slice) ≤ 131072 ⌝ }
+{
+    if reads {
+        return solution(env, lits, ends, bytes, slice);
+    }
+    answer(env, lits, ends, bytes, slice)
 }

@@ -3,9 +3,8 @@ mod answers;
 mod rules;
 
 pub use answers::Called;
-pub use answers::answer;
 pub use answers::given_of;
-pub use answers::solution;
+pub use answers::lent;
 use encoder::Answer;
 use encoder::encode_linear;
 use encoder::encode_mul;
