@@ -22,6 +22,11 @@
 #define SUMIREWHA_COUNTS 4
 /* no text is longer, in bytes, where the stores are not longer than these */
 #define SUMIREWHA_TEXT_BYTES 65551
+/* the entries of `counts` of sumirewha_read_answer and sumirewha_print_answer */
+#define SUMIREWHA_ANSWER_COUNTS 2
+/* no job has more variables, and no print of an assignment is longer, in bytes */
+#define SUMIREWHA_VARIABLES 65535
+#define SUMIREWHA_ANSWER_BYTES 458763
 
 #ifdef __cplusplus
 extern "C" {
@@ -49,6 +54,34 @@ uint32_t sumirewha_encode(const uint8_t *bytes, size_t bytes_len, uint32_t *lits
    they were. Where it is more, nothing is written to `out`. */
 size_t sumirewha_print(const uint8_t *bytes, size_t bytes_len, uint32_t *lits, size_t lits_len,
                        uint32_t *ends, size_t ends_len, uint8_t *out, size_t out_len);
+
+/* Runs the job file on the stores as sumirewha_encode does, then reads `text`, what a solver answers to the DIMACS text: comment lines that
+   begin with `c`, one line `s SATISFIABLE` or `s UNSATISFIABLE`, and after the first of these the `v` lines.
+
+   Answers 0 if file and answer are accepted, else a number: that of the file's first refusal; 19 if the text is not such an answer, whole; 20 if
+   it does not give each of the job's variables once; 16 if assignment_len is not the number of the variables. The clauses are not tested. As far
+   as `counts` is long, it gets
+     counts[0]  what sumirewha_encode reports as counts[0]
+     counts[1]  1 if an assignment was found; 0 if the solver found none, or after a refusal
+
+   Where an assignment was found, assignment[v] is 1 if variable v is true, and 0 if it is false. Else `assignment` is as it was. */
+uint32_t sumirewha_read_answer(const uint8_t *bytes, size_t bytes_len, uint32_t *lits, size_t lits_len,
+                               uint32_t *ends, size_t ends_len, const uint8_t *text, size_t text_len,
+                               uint8_t *assignment, size_t assignment_len, uint32_t *counts, size_t counts_len);
+
+/* Runs the job file on the stores as sumirewha_encode does, then prints `assignment`, 1 for a variable that is true and 0 for one that is false,
+   as a solver's answer: the line `s SATISFIABLE` and one `v` line. Each ends in a line feed, and no 0 byte follows.
+
+   Answers 0 if file and assignment are accepted, else a number: that of the file's first refusal; 16 if assignment_len is not the number of the
+   variables, or a byte is neither 0 nor 1; 15 if the text is longer than out_len. The clauses are not tested. As far as `counts` is long, it gets
+     counts[0]  what sumirewha_encode reports as counts[0]
+     counts[1]  the length of the text; 0 after a refusal
+
+   The text is the first bytes of `out`, and the bytes behind it are as they were. It has at most 18 + 7 * assignment_len bytes. After a refusal
+   nothing is written to `out`. */
+uint32_t sumirewha_print_answer(const uint8_t *bytes, size_t bytes_len, uint32_t *lits, size_t lits_len,
+                                uint32_t *ends, size_t ends_len, const uint8_t *assignment, size_t assignment_len,
+                                uint8_t *out, size_t out_len, uint32_t *counts, size_t counts_len);
 
 #ifdef __cplusplus
 }

@@ -17,6 +17,7 @@ use Rattle.encoder_answer.proofs.Statuses.{both-lists, passed, stops, then-rest
 use Rattle.encoder_read.specs.Calls.{all-bits}
 use Rattle.solver_answer.specs.declared.PrintedAnswer.the-variants.{Refused, Text}
 use Rattle.solver_answer.specs.Print.{print, print-said}
+use Rattle.solver_answer.proofs.Sizes.{print-size}
 use Rattle.encoder_solution.specs.Answers.{PrintsAnswer, assignment-checks, print-answer, print-checks}
 
 module _ (env : EncoderEnv) (lits ends bytes slice : List ℕ) {status : ℕ} (e : status ≡ status-of (assignment-checks env (length lits) (length ends) bytes)) where
@@ -52,10 +53,15 @@ module _ (env : EncoderEnv) (lits ends bytes slice : List ℕ) {status : ℕ} (e
         let t = le-leb size (length slice) l in
         record { answer = rw (room-test, t) (ap Text (p .size)); text = p .bytes ∙ rw (← p .size, t) }
 
--- a text that was written fits the slice
-pub text-fits : (env : EncoderEnv) (lits ends : ℕ) (bytes : List ℕ) (room size : ℕ) → Text size ≡ print-answer env lits ends bytes room → size ≤ room
+-- a text that was written is the whole print: the checks of the assignment passed, and it fits the slice
+record TextWritten (env : EncoderEnv) (lits ends : ℕ) (bytes : List ℕ) (room size : ℕ) : Type 0 where
+  size-is : size ≡ length (print bytes)
+  checked : status-of (assignment-checks env lits ends bytes) ≡ 0
+  fits : size ≤ room
+
+text-written : (env : EncoderEnv) (lits ends : ℕ) (bytes : List ℕ) (room size : ℕ) → Text size ≡ print-answer env lits ends bytes room → TextWritten env lits ends bytes room size
 unfolding print-answer
-text-fits env lits ends bytes room size e = by (eqb status 0) refl e
+text-written env lits ends bytes room size e = by (eqb status 0) refl e
   where
     first : List Check
     first = assignment-checks env lits ends bytes
@@ -66,9 +72,22 @@ text-fits env lits ends bytes room size e = by (eqb status 0) refl e
     status : ℕ
     status = status-of (first ++ last)
 
-    by : (t : Bool) → eqb status 0 ≡ t → Text size ≡ cond t (Text (length (print bytes))) (Refused status) → size ≤ room
+    by : (t : Bool) → eqb status 0 ≡ t → Text size ≡ cond t (Text (length (print bytes))) (Refused status) → TextWritten env lits ends bytes room size
     by true z e =
         let l : size ≡ length (print bytes) = cc in
-        let s = both-lists first last (omega arith, (omega arith, tt)) (eqb-true status 0 z) .1 in
-        omega (arith, l, leb-true (length (print bytes)) room (passed (leb (length (print bytes)) room) 0 14 s .0))
+        let s = both-lists first last (omega arith, (omega arith, tt)) (eqb-true status 0 z) in
+        let r = leb-true (length (print bytes)) room (passed (leb (length (print bytes)) room) 0 14 (s .1) .0) in
+        record { size-is = l; checked = s .0; fits = omega (arith, l, r) }
     by false z e = let q : _≡_ {A = ℕ} 0 1 = cc in absurd (omega (arith, q))
+
+-- a text that was written fits the slice
+pub text-fits : (env : EncoderEnv) (lits ends : ℕ) (bytes : List ℕ) (room size : ℕ) → Text size ≡ print-answer env lits ends bytes room → size ≤ room
+text-fits env lits ends bytes room size e = text-written env lits ends bytes room size e .fits
+
+-- and has at most 7 * 65,535 + 18 bytes
+pub text-small : (env : EncoderEnv) (lits ends bytes slice : List ℕ) (size : ℕ) → Text size ≡ print-answer env (length lits) (length ends) bytes (length slice)
+    → size ≤ 458763
+text-small env lits ends bytes slice size e =
+    let w = text-written env (length lits) (length ends) bytes (length slice) size e in
+    let s = assignment-small env lits ends bytes slice {status = 0} (sym (w .checked)) refl in
+    omega (arith, w .size-is, print-size bytes (omega (arith, s)), s)

@@ -13,15 +13,15 @@ use Rattle.text.proofs.Numerals.{decimal-digit, decimal-more, decimal-value}
 use Rattle.lines.specs.Integers.{is-digit, all-digits, some-digits, is-integer, integer-value}
 use Rattle.lines.proofs.Steps.{and-left, and-right, digit-from}
 
-and-both : (a b : Bool) → a ≡ true → b ≡ true → (a && b) ≡ true
+pub and-both : (a b : Bool) → a ≡ true → b ≡ true → (a && b) ≡ true
 and-both true true p q = refl
 and-both false b p q = p
 and-both true false p q = q
 
-is-digit-in : (b : ℕ) → 48 ≤ b → b ≤ 57 → is-digit b ≡ true
+pub is-digit-in : (b : ℕ) → 48 ≤ b → b ≤ 57 → is-digit b ≡ true
 is-digit-in b h k = and-both _ _ (le-leb 48 b h) (le-leb b 57 k)
 
-all-digits-last : (l : List ℕ) (b : ℕ) → all-digits l ≡ true → is-digit b ≡ true → all-digits (l ++ (b ∷ [])) ≡ true
+pub all-digits-last : (l : List ℕ) (b : ℕ) → all-digits l ≡ true → is-digit b ≡ true → all-digits (l ++ (b ∷ [])) ≡ true
 unfolding all-digits
 all-digits-last [] b p q = and-both _ _ q refl
 all-digits-last (c ∷ l) b p q = and-both (is-digit c) _ (and-left (is-digit c) _ p) (all-digits-last l b (and-right (is-digit c) _ p) q)

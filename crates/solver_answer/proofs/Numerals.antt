@@ -1,12 +1,13 @@
 -- The numbers that a print has are numbers that a reading takes, of the same value.
 use Prim.Native.Nat.{_%_, _+_, _/_, _<_, _≤_, suc, zero, ℕ}
-use borrow.Author.Tests.{le-leb, ltb-false, ltb-true, ne-eqb}
+use borrow.Author.Tests.{ltb-false, ltb-true, ne-eqb}
 use lib.Dec.{eqb, ltb}
-use mathlib.Core.Bool.{Bool, _&&_, _||_, false, not, true, true≢false}
+use mathlib.Core.Bool.{Bool, _||_, false, not, true, true≢false}
 use mathlib.Core.List.{List, [], _++_, _∷_}
 use mathlib.Core.Path.{_∙_, _≡_, refl, sym}
 use native.Mathlib.Omega.{arith}
 use Rattle.lines.specs.Integers.{all-digits, is-digit}
+use Rattle.lines.proofs.ReadBack.{all-digits-last, and-both, is-digit-in}
 use Rattle.lines.proofs.Steps.{and-left, and-right, digit-from}
 use Rattle.text.specs.Decimal.{decimal, digits-value}
 use Rattle.text.proofs.Numerals.{decimal-digit, decimal-more, decimal-value}
@@ -14,22 +15,9 @@ use Rattle.solver_answer.specs.Lines.{is-number, is-positive, number, sa
 use Rattle.solver_answer.specs.Print.{signed}
 use Rattle.solver_answer.proofs.Splits.{Free, digits-free}
 
-pub and-both : (a b : Bool) → a ≡ true → b ≡ true → (a && b) ≡ true
-and-both true true p q = refl
-and-both false b p q = p
-and-both true false p q = q
-
 or-right : (a b : Bool) → b ≡ true → (a || b) ≡ true
 or-right true b p = refl
 or-right false b p = p
-
-is-digit-in : (b : ℕ) → 48 ≤ b → b ≤ 57 → is-digit b ≡ true
-is-digit-in b h k = and-both _ _ (le-leb 48 b h) (le-leb b 57 k)
-
-all-digits-last : (l : List ℕ) (b : ℕ) → all-digits l ≡ true → is-digit b ≡ true → all-digits (l ++ (b ∷ [])) ≡ true
-unfolding all-digits
-all-digits-last [] b p q = and-both _ _ q refl
-all-digits-last (c ∷ l) b p q = and-both (is-digit c) _ (and-left (is-digit c) _ p) (all-digits-last l b (and-right (is-digit c) _ p) q)
 
 positive-last : (l : List ℕ) (b : ℕ) → is-positive l ≡ true → is-digit b ≡ true → is-positive (l ++ (b ∷ [])) ≡ true
 unfolding is-positive

@@ -9,13 +9,14 @@ use mathlib.Core.Path.{_∙_, _≡_, ap, refl, sym}
 use native.Mathlib.Omega.{arith}
 use Rattle.text.specs.Decimal.{digits-value}
 use Rattle.lines.specs.Reading.{split}
+use Rattle.lines.proofs.ReadBack.{and-both}
 use Rattle.clause_set.specs.Bytes.{Bits}
 use Rattle.solver_answer.specs.Lines.{Kind, Number, all-numbers, by-word, is-number, kind, kinds, kinds-of, number, numbers-in, same, satisfiable-line, values, values-line, verdict}
 use Rattle.solver_answer.specs.declared.Solution.the-variants.{Assignment}
 use Rattle.solver_answer.specs.Answer.{assignment, by-verdict, bytes-from, each-given, each-once, ended, is-true, kinds-status, known, numbers, readable, satisfiable, says-satisfiable, solution, solution-status, times, values-first, verdicts, whole}
 use Rattle.solver_answer.specs.Print.{print, signed, values-from}
 use Rattle.solver_answer.proofs.Splits.{Free, free-append, kinds-line, split-none, split-some}
-use Rattle.solver_answer.proofs.Numerals.{and-both, signed-reads}
+use Rattle.solver_answer.proofs.Numerals.{signed-reads}
 
 -- The lines of a print ------------------------------------------------------------------------------------------------
 

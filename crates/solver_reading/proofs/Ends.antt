@@ -9,12 +9,9 @@ use mathlib.Core.List.{List}
 use mathlib.Core.Path.{_∙_, _≡_, ap, refl, sym}
 use native.Mathlib.Numerals.{add-one}
 use native.Mathlib.Omega.{arith}
+use Rattle.lines.proofs.Steps.{and-false}
 use Rattle.solver_reading.specs.declared.State.{State}
 use Rattle.solver_reading.specs.Reading.{all-given, none-open, prefix, run, run-given, run-status, run-whole}
-
-and-false : (a : Bool) → (a && false) ≡ false
-and-false true = refl
-and-false false = refl
 
 pub open-found : (n i : ℕ) (bs : List ℕ) → i < n → getD bs i 0 ≡ 2 → false ≡ none-open n bs
 unfolding none-open

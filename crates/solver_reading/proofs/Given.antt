@@ -12,6 +12,7 @@ use Rattle.lines.proofs.Steps.{and-left, and-right}
 use Rattle.solver_answer.specs.Answer.{bytes-from, each-given, each-once, is-true, known, times}
 use Rattle.solver_answer.specs.Lines.{Number}
 use Rattle.solver_reading.specs.Reading.{Run, is-wrong, none-open, prefix, run-given, take-number}
+use Rattle.solver_reading.proofs.Taking.{or-none, or-true}
 use Rattle.solver_reading.proofs.Whole.{taken}
 
 -- how often a variable with this byte may still be given
@@ -31,14 +32,6 @@ data Taking (n : ℕ) (r : Run) (m : Number) : Type 0 where
   doubled : (v : ℕ) → m .size ≡ suc v → v < n → (getD (r .bytes) v 0 ≡ 2 → ⊥) → take-number n r m .state .wrong ≡ true → Taking n r m
   giving : (v : ℕ) → m .size ≡ suc v → v < n → getD (r .bytes) v 0 ≡ 2
       → take-number n r m .state .wrong ≡ r .state .wrong → take-number n r m .bytes ≡ set (r .bytes) v (cond (m .negative) 0 1) → Taking n r m
-
-or-true : (b : Bool) → (b || true) ≡ true
-or-true true = refl
-or-true false = refl
-
-or-none : (b : Bool) → (b || false) ≡ b
-or-none true = refl
-or-none false = refl
 
 taking : (n : ℕ) (r : Run) (m : Number) → Taking n r m
 unfolding take-number is-wrong

@@ -16,11 +16,11 @@ use Rattle.solver_answer.proofs.Splits.{split-pieces}
 use Rattle.solver_lines.specs.Scans.{TokenRead}
 use Rattle.solver_reading.specs.Reading.{Run, after-pieces, in-phase, is-wrong, pieces-left, run, take-number}
 
-or-true : (b : Bool) → (b || true) ≡ true
+pub or-true : (b : Bool) → (b || true) ≡ true
 or-true true = refl
 or-true false = refl
 
-or-none : (b : Bool) → (b || false) ≡ b
+pub or-none : (b : Bool) → (b || false) ≡ b
 or-none true = refl
 or-none false = refl
 

@@ -8,6 +8,7 @@ use mathlib.Core.List.{List, [], _++_, _∷_}
 use mathlib.Core.Path.{_∙_, _≡_, ap, refl, sym}
 use native.Mathlib.Omega.{arith}
 use Rattle.lines.specs.Reading.{first-piece, later-pieces, split}
+use Rattle.lines.proofs.Steps.{and-false}
 use Rattle.solver_answer.specs.Answer.{by-verdict, ended, numbers, readable, satisfiable, says-satisfiable, some-values, values-first, verdicts, whole}
 use Rattle.solver_answer.specs.Lines.{Kind, Number, all-numbers, broken, by-word, comment, is-number, kind, kinds, kinds-of, number, numbers-in, same, satisfiable-line, unsatisfiable-line, values, values-line, verdict}
 use Rattle.solver_reading.specs.Reading.{Run, after-line, after-lines, after-pieces, begun, in-phase, on-values, on-verdict, on-word, run, run-of, run-whole, take-number}
@@ -101,10 +102,6 @@ lines-run n r ([] ∷ []) = done
 lines-run n r ((b ∷ bs) ∷ []) = step (in-phase r 3) refl done
 lines-run n r ([] ∷ m ∷ ls) = step (after-line n r []) (line-follow n r []) (lines-run n (after-line n r []) (m ∷ ls))
 lines-run n r ((b ∷ bs) ∷ m ∷ ls) = step (after-line n r (b ∷ bs)) (line-follow n r (b ∷ bs)) (lines-run n (after-line n r (b ∷ bs)) (m ∷ ls))
-
-and-false : (a : Bool) → (a && false) ≡ false
-and-false true = refl
-and-false false = refl
 
 -- a broken answer stays so
 stays-broken : {n : ℕ} {r z : Run} {ks : List Kind} → Runs n r ks z → r .state .phase ≡ 3 → z .state .phase ≡ 3

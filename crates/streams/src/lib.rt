@@ -1,4 +1,5 @@
-// Standard input read to its end, with a failure told apart from the end; and what is said where reading or writing fails.
+// Standard input, or what a descriptor is open on, read to its end, with a failure told apart from the end; and what is said where reading or
+// writing fails.
 ghost use lib.ListN.{length};
 ghost use Prim.Native.Nat.{_+_, _≤_};
 ghost use Rattle.streams.specs.Input.{bytes-read};
@@ -11,13 +12,20 @@ pub enum Input {
     Failed,
 }
 
-// Reads until the buffer is full or the input ends.
+// Reads standard input until the buffer is full or the input ends.
 pub fn read_input(buf: &mut [u8]) -> Input
+    ensures { λ r. ⌜ bytes-read r ≤ length (now (buf .entry)) ⌝ }
+{
+    read_from(STDIN_FILENO, buf)
+}
+
+// The same for what a descriptor is open on.
+pub fn read_from(fd: i32, buf: &mut [u8]) -> Input
     ensures { λ r. ⌜ bytes-read r ≤ length (now (buf .entry)) ⌝ }
 {
     let mut n: usize = 0;
     while n < buf.len() {
-        let got = libc::read(STDIN_FILENO, &mut buf[n..]);
+        let got = libc::read(fd, &mut buf[n..]);
         if got < 0 {
             return Input::Failed;
         }

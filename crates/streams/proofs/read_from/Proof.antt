@@ -1,16 +1,16 @@
--- `streams::read_input` meets its contract.
+-- `streams::read_from` meets its contract.
 use mathlib.Core.Path.{_≡_}
 use Prim.Native.Nat.{_-_, _≤_}
 use lib.ListN.{length}
 use borrow.Author.Needs.{needs}
-use Rattle.streams.proofs.read_input.Statement.{statement}
-use Rattle.streams.proofs.read_input.Tie as tie
+use Rattle.streams.proofs.read_from.Statement.{statement}
+use Rattle.streams.proofs.read_from.Tie as tie
 
 abbrev Inv-loop : tie.InvT-loop
-Inv-loop buf₀ n₀ buf n = (length buf ≡ length buf₀) × (n ≤ length buf)
+Inv-loop fd buf₀ n₀ buf n = (length buf ≡ length buf₀) × (n ≤ length buf)
 
 abbrev μ-loop : tie.MeasureT-loop
-μ-loop buf₀ n₀ buf n = length buf - n
+μ-loop fd buf₀ n₀ buf n = length buf - n
 
 loop-holds : tie.Need-loop-holds Inv-loop μ-loop
 loop-holds c = search needs
@@ -66,8 +66,8 @@ same-length-3 c = search needs
 returns-3 : tie.Need-returns-3 Inv-loop μ-loop
 returns-3 c = search needs
 
-pub read-input-spec : {M : Type 1} → statement M
-read-input-spec =
+pub read-from-spec : {M : Type 1} → statement M
+read-from-spec =
     tie.close
     (tie.spec
     Inv-loop

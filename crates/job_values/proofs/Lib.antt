@@ -1,0 +1,5 @@
+pub mod Accepted
+pub mod Choice
+pub mod Sizes
+pub mod Printing
+pub mod Examples
