@@ -8,7 +8,7 @@ import jobfile
 from calls import Calls
 
 MAX_TEXT = 1_048_576
-TOO_LONG = f"the solver's text is longer than {MAX_TEXT:,} bytes\n"
+TOO_LONG = f"the answer is longer than {MAX_TEXT} bytes\n"
 
 
 def choice(calls, assignment):

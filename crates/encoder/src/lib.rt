@@ -1,4 +1,4 @@
-// The public calls, after encoder/mod.rs. None has a `requires`: what does not fit is refused by a number.
+// The public calls, after encoder/mod.rs, and the two of a solver's answer (#103). None has a `requires`: what does not fit is refused by a number.
 pub use encoder_answer::Answer;
 pub use encoder_env::EncoderEnv;
 pub use encoder_linear::encode_linear;

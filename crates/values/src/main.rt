@@ -8,7 +8,7 @@ use libc::STDERR_FILENO;
 use libc::STDOUT_FILENO;
 use streams::Input;
 
-// The bytes of an answer that are read.
+// One byte more than an answer may have, so that one too long is seen.
 const ANSWER: usize = 1048577;
 
 // Reads the file named by the first argument. A name longer than the buffer is handed over as an empty one, which no file has. The
