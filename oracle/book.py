@@ -4,6 +4,7 @@ A small job is right if every choice that meets all rules has exactly one satisf
 that reads back as it, and every satisfying assignment reads back as such a choice.
 """
 
+from collections import Counter
 from itertools import product
 from math import prod
 
@@ -102,9 +103,12 @@ def satisfying(clauses, fixed, variables):
 
 
 def read_back(calls, assignment):
-    """An assignment read back as a choice: the switches, then the settings' numbers."""
+    """An assignment read back as a choice: the switches, then the settings' numbers.
+
+    There is None for a number where the reading is refused."""
     answers = [calls.read(setting, assignment) for setting in range(calls.job.count)]
-    return (*assignment[: calls.job.switches], *[answer.value for answer in answers])
+    numbers = [None if answer.status else answer.value for answer in answers]
+    return (*assignment[: calls.job.switches], *numbers)
 
 
 def written(calls):
@@ -112,8 +116,27 @@ def written(calls):
     return [calls.clause(k).part for k in range(calls.job.clauses)]
 
 
+def literals_of(job, choice):
+    """The literals of switches and setting bits that hold in a choice."""
+    held = [2 * switch + 1 - value for switch, value in enumerate(choice[: job.switches])]
+    for setting, number in zip(job.settings, choice[job.switches :]):
+        code = number - setting.offset
+        held += [lit ^ 1 ^ (code >> bit & 1) for bit, lit in enumerate(setting.used())]
+    return held
+
+
+def assignment_of(calls, choice):
+    """The assignment that satisfies the clauses and reads back as a choice."""
+    units = [{lit} for lit in literals_of(calls.job, choice)]
+    clauses = [frozenset(clause) for clause in [*written(calls), *units]]
+    (found,) = satisfying(clauses, {}, calls.job.variables)
+    if read_back(calls, found) != choice:
+        raise AssertionError("the assignment reads back otherwise")
+    return found
+
+
 def agrees(calls, clauses, book):
     """Whether the clauses' satisfying assignments read back as the book's choices, one for each."""
     sets = [frozenset(clause) for clause in clauses]
     found = [] if frozenset() in sets else satisfying(sets, {}, calls.job.variables)
-    return sorted(read_back(calls, values) for values in found) == sorted(book.choices())
+    return Counter(read_back(calls, values) for values in found) == Counter(book.choices())

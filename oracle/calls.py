@@ -9,6 +9,7 @@ from itertools import accumulate
 
 import answers
 import checks
+import reading
 from heights import MAX_HEIGHT, linear_reached, mul_reached
 from job import BITS, MAX_STORE, MAX_VARIABLES, Job, Setting, well_formed
 from turned import turned_terms
@@ -128,9 +129,22 @@ class Calls:
             return Answer(13, reached=reached)
         return self.add("mul", [x, y, m], reached)
 
+    def unreadable(self):
+        """The longer 1 of calls that read the clauses."""
+        return self.malformed() or (0 if reading.readable(self.job, self.lits, self.ends) else 1)
+
+    def unsatisfied(self, assignment):
+        """The numbers of the clauses that an assignment leaves unsatisfied."""
+        return reading.unsatisfied(self.job, self.lits, self.ends, assignment)
+
+    def check_clauses(self, assignment):
+        """21 where an assignment leaves a clause unsatisfied; the first one settles it."""
+        return 0 if next(self.unsatisfied(assignment), None) is None else 21
+
     def read(self, setting, assignment):
-        status = self.malformed() or checks.check_settings(self.job, [setting])
+        status = self.unreadable() or checks.check_settings(self.job, [setting])
         status = status or checks.check_assignment(self.job, assignment)
+        status = status or self.check_clauses(assignment)
         if status:
             return Answer(status)
         return Answer(0, value=self.driver.read(self.job, setting, assignment))

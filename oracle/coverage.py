@@ -1,13 +1,17 @@
 """Counts what a script reaches: calls by number; accepted rules by height and ending; long runs;
-texts of a solver by what was found, prints of assignments and those of them that were read back."""
+readings by the clauses tested; texts of a solver by what was found, prints of assignments and those
+of them that were read back."""
 
 from collections import Counter
+from itertools import islice
+from operator import ne
 
 from script import Script
 from turned import NAMES
 
 TALL = (11, 12)
 LONG = (30, 60, 120)
+MANY_CLAUSES = 300
 COINCIDING = {(0, 0, 2): "x = y", (0, 1, 0): "x = m", (0, 1, 1): "y = m", (0, 0, 0): "x = y = m"}
 
 
@@ -21,6 +25,7 @@ class Counted(Script):
         self.given = []
         self.accepted = 0
         self.printed = None
+        self.held = []
 
     def line(self, line):
         word, *self.given = line.split(b" ")
@@ -31,6 +36,9 @@ class Counted(Script):
     def answered(self, word, answer):
         self.numbers[word, answer.status] += 1
         self.count_run(word, answer.status)
+        if word == "read":
+            names = self.reading_names(answer.status, [int(number) for number in self.given[1:]])
+            self.reached.update(("readings", name) for name in names)
         if answer.status == 0 and word in ("solution", "answer"):
             self.count_answer(word, answer)
         if answer.status == 0 and word in ("linear", "mul"):
@@ -60,6 +68,28 @@ class Counted(Script):
             self.reached["prints", "read back"] += 1
             self.printed = None
 
+    def reading_names(self, status, assignment):
+        """What a reading is counted as; accepted assignments are kept for the next ones."""
+        if status == 1:
+            yield "1 by the job" if self.calls.malformed() else "1 by the clauses"
+        if status == 21:
+            yield "21, " + self.unsatisfied(assignment)
+        if status in (0, 21) and one_off(assignment, self.held):
+            yield f"{status}, one bit off the last accepted"
+        if status == 0:
+            self.held = assignment
+            clauses = self.calls.job.clauses
+            many = clauses >= MANY_CLAUSES
+            yield "0, no clauses" if clauses == 0 else "0, many clauses" if many else "0, clauses"
+
+    def unsatisfied(self, assignment):
+        """Whether an assignment leaves one clause alone unsatisfied, and which."""
+        first, *others = islice(self.calls.unsatisfied(assignment), 2)
+        if others:
+            return "several clauses"
+        last = self.calls.job.clauses - 1
+        return {0: "the first alone", last: "the last alone"}.get(first, "one between alone")
+
     def product_endings(self, given, answer):
         """What an accepted product is counted as."""
         offsets = any(self.calls.job.settings[setting].offset for setting in given)
@@ -70,6 +100,11 @@ class Counted(Script):
         same = COINCIDING.get(tuple(given.index(setting) for setting in given))
         if same:
             yield f"{kind}, {same}"
+
+
+def one_off(assignment, other):
+    """Whether two assignments of the same length differ in one place."""
+    return len(assignment) == len(other) and sum(map(ne, assignment, other)) == 1
 
 
 def common_endings(kind, answer):

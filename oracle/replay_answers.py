@@ -125,7 +125,7 @@ def grown(driver):
     before = ["open 2", "range -3 4", "list 2 5", "binary 3 -1 6", "linear 2 -1 0 1 1 1"]
     yield from [spaced("stores", sizes(driver, before)), *before, "show"]
     count = job_after(driver, before).variables
-    # neither call tests the clauses
+    # neither call tests the clauses, a reading does
     for step in (1, 2, 3, 5):
         assignment = [variable // step % 2 for variable in range(count)]
         text = printed(assignment)

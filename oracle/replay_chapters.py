@@ -75,6 +75,10 @@ def table():
     full = ["range 0 2", "list 1 4", "binary 0 0 1"]
     yield from shown(*full, "range 1 0", "list", "binary 2 0 1", "binary 0 1 1")
     yield from ["read 31", "read 32", f"read {U32}"]
+    # the clauses of the first and of the last range unsatisfied; 8 comes before 21
+    zeros = [0] * 63
+    for values in (zeros, [0, 1, 1, *zeros[3:]], [*zeros[2:], 1, 1]):
+        yield from (spaced(f"read {number}", values) for number in (0, 1, 30, 31, 32))
 
 
 def space(driver):
@@ -103,25 +107,12 @@ def variables():
         yield from [job_line(job), "list 0 5", "binary 0 0 5", "stores 0 1", job_line(job)]
         yield from ["range 0 1", "range 0 99", "list 1 4", "binary 1 0 5"]
     yield from shown(job_line(replace(job, variables=65_536)), *CALLS)
+    # a clause of the last variable alone, and one with a literal past it
     record = Setting((131_069, 1, *[0] * 10), 2, -3, -1, -3)
-    given = replace(job, variables=65_535, count=1, settings=(record, *[SPARE] * 31))
-    yield from [job_line(given), spaced("read 0", [1] + [0] * 65_534), "read 0 1 0"]
-
-
-def readings():
-    yield from ["stores 200 60", "open 3", "range -3 4", "list 2 5 9", "binary 5 -1 6"]
-    yield from ["range 0 0", "show"]
-    size = 3 + 3 + 4
-    for number in range(4):
-        for code in (0, 1, 0b101, 0b1110000, 0b1010101, 2**size - 1):
-            yield spaced(f"read {number}", [code >> i & 1 for i in range(size)])
-    zeros = [0] * size
-    wrong = [zeros[1:], zeros + [0], [], zeros[1:] + [2], [255] + zeros[1:], zeros + [2]]
-    yield from (spaced("read 1", values) for values in wrong)
-    # 8 comes before 16
-    yield from (spaced("read 4", values) for values in [zeros, *wrong])
-    yield from [spaced(f"read {U32}", zeros), "show"]
-    yield from ["open 0", "range 0 0", "read 0", "read 0 0", "read 1"]
+    given = Job(1, 65_535, 1, 1, 1, (record, *[SPARE] * 31))
+    yield from ["stores 1 2", "ends 1 1", "lits 0 131070", job_line(given), "read 0", "read 1"]
+    yield from ["lits 0 131068", "read 0", "read 1", "read 0 1 0"]
+    yield spaced("read 0", [0] * 65_534 + [1])
 
 
 def clauses():
@@ -142,7 +133,8 @@ def forged():
     base = Job(2, 5, 1, 4, 2, (first, second, *[SPARE] * 30))
     yield from ["stores 40 20", "lits 0 5", "ends 1 4"]
     for job in [base, *held(base)]:
-        yield from [job_line(job), "clause 0", "read 1 1 0 1 0 1", "binary 0 0 5", "show"]
+        yield from [job_line(job), "clause 0", "read 1 1 0 1 0 1", "read 1 0 0 1 0 1"]
+        yield from ["read 1 0 0 0 0 0", "binary 0 0 5", "show"]
     for job in broken(base):
         yield from [job_line(job), *CALLS, "range 1 0", "clause 99", f"read {U32}"]
     yield from shown(job_line(replace(base, switches=65, variables=65)), *CALLS, "open 1")
@@ -236,5 +228,5 @@ def broken(base):
 def lines(driver):
     """The whole part; empty lines are passed over."""
     chapters = [openings(), ranges(), lists(), binaries(), table(), space(driver), variables()]
-    chapters += [readings(), clauses(), forged()]
+    chapters += [clauses(), forged()]
     return [line for chapter in chapters for line in ["", *chapter]]

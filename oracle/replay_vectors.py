@@ -4,10 +4,10 @@
   replay_vectors.py SEED [DIRECTORY]   writes stdin and stdout of DIRECTORY/replay and of
                                        DIRECTORY/replay_lines (crates if absent)
 
-The script for replay is made of chapters (replay_chapters.py, replay_sums.py, replay_products.py,
-replay_answers.py), then of random scripts, and ends in a line that cannot be read. Each line for
-replay_lines is answered as a script of its own (replay_lines.py). What was reached is printed
-(coverage.py).
+The script for replay is made of chapters (replay_chapters.py, replay_readings.py, replay_sums.py,
+replay_products.py, replay_answers.py), then of random scripts, and ends in a line that cannot be
+read. Each line for replay_lines is answered as a script of its own (replay_lines.py). What was
+reached is printed (coverage.py).
 """
 
 import argparse
@@ -19,6 +19,7 @@ import replay_answers
 import replay_chapters
 import replay_lines
 import replay_products
+import replay_readings
 import replay_sums
 from coverage import Counted, report
 from driver import Driver
@@ -31,7 +32,7 @@ DIRECTORY = Path(__file__).resolve().parent.parent / "crates"
 RANDOM = {"settings": 150, "edges": 200, "space": 150, "forged": 110}
 RANDOM |= {"linear": 150, "eq": 100, "ne": 100, "ge": 100, "heights": 60, "dead": 150}
 RANDOM |= {"le": 60, "lt": 60, "gt": 60}
-RANDOM |= {"mul": 60, "shifted": 40, "same": 40, "answers": 80}
+RANDOM |= {"mul": 60, "shifted": 40, "same": 40, "answers": 80, "readings": 120}
 LONGEST = 2_000
 END = ["", "", "range 0 x", "show", "open 1"]
 
@@ -75,6 +76,7 @@ def main():
     options = parser.parse_args()
     driver = Driver(options.driver)
     lines = replay_chapters.lines(driver)
+    lines += replay_readings.lines(driver)
     lines += replay_sums.lines(driver, random.Random(f"sums {options.seed}"))
     lines += replay_products.lines(driver)
     lines += replay_answers.lines(driver)

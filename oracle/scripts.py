@@ -16,7 +16,11 @@ With --show, every job ends in `show`, so that all records and entries are compa
   space     small stores, and jobs near the last variable
   forged    jobs and store entries given as numbers, well formed or not
   answers   a solver's texts, whole and damaged, and prints of assignments, each read back
+  readings  jobs that mostly stay satisfiable, read under satisfying assignments, these with a bit
+            turned, and others; entries and counts forged, then put back (readings.py)
   bad       ends in a line that cannot be read
+In mixed, long, settings, small and forged, half of the readings are of a satisfying assignment if
+one is soon found (sought.py).
 """
 
 import argparse
@@ -30,13 +34,18 @@ from badlines import BAD_LINES, LONG_LINES
 from driver import Driver
 from job import Job
 from judge import add_driver_option
+from readings import LOW_LIMIT, Readings
 from script import LENGTH, MAX_BYTES, BadLine, Script, spaced
+from sought import sought
 from turned import EQ, GE, GT, LE, LT, NE, OPERATIONS
 
 LARGE = (524_288, 131_072)
 SHOWN = 3_000
 PREPARED = 6
 RUN = 60
+SATISFIED = ("mixed", "long", "settings", "small", "forged")
+SEARCHED = 120_000
+SMALL_READINGS = 3
 
 # How often each kind draws each call.
 WEIGHTS = {
@@ -63,12 +72,15 @@ WEIGHTS = {
         forge=4, entry=2, range=1, list=1, binary=1, linear=3, mul=2, read=2, clause=4, show=1
     ),
     "answers": dict(solution=20, answer=6, forge=3, many=1, range=1, binary=1, linear=1),
+    "readings": dict(
+        range=1, list=2, binary=1, met=9, tests=13, entries=6, counts=1, clause=1, show=1
+    ),
     "bad": dict(range=1, linear=1, mul=1, read=1, clause=1),
 }
 ONLY = {"eq": EQ, "ne": NE, "ge": GE, "le": LE, "lt": LT, "gt": GT, "dead": EQ}
 
 
-class Generator:
+class Generator(Readings):
     """Draws calls for a job that it follows with the judge itself."""
 
     def __init__(self, kind, rng, driver, show=False, without=()):
@@ -93,29 +105,40 @@ class Generator:
     def fresh(self):
         """Stores, an opening, and settings for kinds that need some."""
         rng = self.rng
-        self.age = 0
+        self.age, self.good = 0, None
+        if self.kind == "small" and self.lines and "read" not in self.without:
+            for _ in range(SMALL_READINGS):
+                self.call_read()
         if self.show and self.lines:
             self.put("show")
         if self.kind == "space":
             self.put("stores", rng.choice([0, 1, rng.randint(0, 400)]), rng.randint(0, 120))
         elif self.kind in ("small", "answers"):
             self.put("stores", 20_000, 5_000)
+        elif self.kind == "readings":
+            self.put("stores", *rng.choice([(2_200, 700), (20_000, 5_000), (40_000, 9_000)]))
         elif self.lines == []:
             self.put("stores", *LARGE)
         switches = {"small": rng.randint(0, 2)}.get(self.kind, rng.choice([1, 3, 20, 64]))
         if self.kind == "answers":
             switches = rng.choice([0, 0, 1, 2, 3, 8, 9, 10, 11, 30, 64])
-        self.put("open", switches)
         prepared = {"small": 2, "space": 0, "forged": 0, "answers": 0}.get(self.kind, PREPARED)
+        if self.kind == "readings":
+            switches, prepared = rng.choice([0, 1, 2, 3, 8, 20]), rng.choice([1, 3, 5, 5, 7])
+        self.put("open", switches)
+        if self.kind == "readings":
+            self.start()
         for _ in range(prepared):
             getattr(self, "call_" + rng.choice(["range", "range", "list", "binary"]))()
 
     def crowded(self):
         """Whether the job is old or full enough for a new one."""
         runs = {"small": 5, "space": 12, "forged": 30, "settings": 32, "long": 150, "answers": 12}
+        runs["readings"] = 22
         calls = self.script.calls
         room = len(calls.lits) - self.job.literals
-        full = room < 60_000 and self.kind not in ("small", "space", "forged", "answers")
+        short = ("small", "space", "forged", "answers", "readings")
+        full = room < 60_000 and self.kind not in short
         return full or self.age >= runs.get(self.kind, RUN)
 
     def call_range(self):
@@ -185,7 +208,20 @@ class Generator:
     def call_read(self):
         rng, job = self.rng, self.job
         number = rng.randrange(arguments.known(job)) if job.count else 0
-        return self.put("read", number, *arguments.assignment(rng, job))
+        assignment = arguments.assignment(rng, job)
+        if self.kind in SATISFIED:
+            assignment = self.satisfied(assignment)
+        return self.put("read", number, *assignment)
+
+    def satisfied(self, drawn):
+        """A satisfying assignment in place of one drawn, half of the time if it is soon found.
+
+        It is drawn apart, so that all other lines stay what they are without it.
+        """
+        own, found = random.Random(bytes(drawn)), None
+        if self.job.literals <= SEARCHED and own.random() < 0.5:
+            found = sought(own, self.script.calls, LOW_LIMIT)
+        return drawn if found is None else found
 
     def call_clause(self):
         clauses = self.job.clauses

@@ -1,6 +1,6 @@
 #!/usr/bin/env python3
-"""Checks the judge against the bench values, points of the solver's answer written by hand
-(answer_points.py) and, on small jobs, the plain book.
+"""Checks the judge against the bench values, points of a solver's answer (answer_points.py) and of
+readings (reading_points.py) written by hand and, on small jobs, the plain book.
 
   selfcheck.py [--seed SEED] [--jobs JOBS]
 """
@@ -8,9 +8,12 @@
 import argparse
 import io
 import random
+from collections import Counter
+from itertools import product
 
 import answer_points
 import jobfile
+import reading_points
 from book import Book, agrees, written
 from driver import Driver
 from judge import add_driver_option
@@ -79,6 +82,8 @@ BENCH = [
 ]
 EXAMPLE = bytes.fromhex("01 0001 00 02 0004 0000 0002 02 0004 0000 0001")
 EXAMPLE_PRINT = "p cnf 3 1\n-1 -2 0\n"
+LEAST_LINES, LINES = 4, 7
+GONE_THROUGH = 10  # variables
 
 
 def matches(line, wanted):
@@ -105,18 +110,41 @@ def check_example(driver):
     return [] if out.getvalue() == EXAMPLE_PRINT else ["example: " + out.getvalue()]
 
 
-def check_job(driver, seed):
-    """One small random job: whether it agrees with its book, and how many rules it has."""
-    generator = Generator("small", random.Random(f"book {seed}"), driver)
-    lines = generator.run(7)
+def small_job(driver, seed, count):
+    """One small random job of some lines: these, its calls, its book."""
+    lines = Generator("small", random.Random(f"book {seed}"), driver).run(count)
     script, book = Script(driver), Book()
     for line in lines:
         word, *numbers = line.split()
         answer = script.line(line.encode())
         if answer:
             book.feed(word, [int(n) for n in numbers], int(answer[0].split()[0]))
-    right = agrees(script.calls, written(script.calls), book)
-    return right, len(book.rules), len(book.choices()), lines
+    return lines, script.calls, book
+
+
+def check_jobs(driver, seeds, counts):
+    """Faults among small random jobs held to the book; what they have is counted."""
+    for seed in seeds:
+        lines, calls, book = small_job(driver, seed, LINES)
+        choices = book.choices()
+        counts["small jobs"] += 1
+        counts["of these with a choice"] += choices != []
+        counts["rules"] += len(book.rules)
+        counts["choices"] += len(choices)
+        if not agrees(calls, written(calls), book):
+            yield f"job {seed}: {lines}"
+
+
+def check_readings(driver, seeds, counts):
+    """Faults among the readings of those with few variables, and of their beginnings."""
+    for seed, count in product(seeds, range(LEAST_LINES, LINES + 1)):
+        lines, calls, book = small_job(driver, seed, count)
+        if calls.job.count and calls.job.variables <= GONE_THROUGH:
+            faults, accepted = reading_points.check_all(calls, written(calls), book)
+            counts["jobs read under all assignments"] += 1
+            counts["assignments"] += 2**calls.job.variables
+            counts["of these accepted"] += accepted
+            yield from (f"job {seed}: {lines}: {fault}" for fault in faults)
 
 
 def main():
@@ -131,16 +159,14 @@ def main():
     told, points = answer_points.faults(options.seed, options.jobs)
     print(f"points of a solver's answer, texts read in two manners: {points}, faults: {len(told)}")
     faults += told
-    rules = choices = satisfiable = 0
-    for seed in range(options.seed, options.seed + options.jobs):
-        right, job_rules, job_choices, lines = check_job(driver, seed)
-        rules += job_rules
-        choices += job_choices
-        satisfiable += job_choices > 0
-        if not right:
-            faults.append(f"job {seed}: {lines}")
-    print(f"small jobs: {options.jobs}, of these with a choice: {satisfiable}")
-    print(f"rules: {rules}, choices: {choices}, faults in all: {len(faults)}")
+    told = list(reading_points.check_points(driver))
+    points = len([*reading_points.points(), *reading_points.PRINTS])
+    print(f"points of a reading: {points}, faults: {len(told)}")
+    faults, counts = faults + told, Counter()
+    seeds = range(options.seed, options.seed + options.jobs)
+    faults += [*check_jobs(driver, seeds, counts), *check_readings(driver, seeds, counts)]
+    print(", ".join(f"{name}: {count}" for name, count in counts.items()))
+    print(f"faults in all: {len(faults)}")
     for fault in faults:
         print(fault)
     driver.close()

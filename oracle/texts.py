@@ -23,9 +23,12 @@ TALK = [b"", b" ", b"x", b" s SATISFIABLE", b"s UNSATISFIABLE", b"v 1 0", b"--- 
 TALK += [b"\r", b"\tt", b"1.5 seconds  ", b"\x00\xff", b"c c", "v\u00e4lues".encode()]
 
 
-def numbers(rng, variables):
-    """A sign for each variable, in rising order or any, and the 0."""
-    words = [rng.choice([b"", b"-"]) + b"%d" % (v + 1) for v in range(variables)]
+def numbers(rng, variables, assignment=None):
+    """A sign for each variable, any or as an assignment has it, in rising order or any; the 0."""
+    signs = (rng.choice([b"", b"-"]) for _ in range(variables))
+    if assignment is not None:
+        signs = (b"" if value else b"-" for value in assignment)
+    words = [sign + b"%d" % (v + 1) for v, sign in enumerate(signs)]
     if rng.random() < 0.5:
         rng.shuffle(words)
     return [*words, b"0"]
@@ -52,6 +55,13 @@ def with_comments(rng, lines):
     for _ in range(rng.choice([0, 0, 1, 2, 5])):
         lines.insert(rng.randint(0, len(lines)), comment(rng))
     return lines
+
+
+def of_assignment(rng, assignment):
+    """A whole text of an assignment."""
+    words = numbers(rng, len(assignment), assignment)
+    lines = [answers.SATISFIABLE, *folded(rng, words)]
+    return b"".join(line + b"\n" for line in with_comments(rng, lines))
 
 
 def made(rng, variables, damages=()):

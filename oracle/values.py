@@ -1,7 +1,8 @@
-"""What the program values prints of a job file and a solver's text, from document 02, #103.
+"""What the program values prints of a job file and a solver's text, from document 02, #103, #104.
 
 Each setting's number, then each switch's answer; `none` where the solver found none; or one
-refusal, the file's own first. The clauses are not tested.
+refusal, the file's own first, then the text's, then that of an assignment which leaves a clause
+unsatisfied.
 """
 
 import jobfile
@@ -20,11 +21,14 @@ def choice(calls, assignment):
 
 
 def lines_of(calls, data, text):
-    """The file's calls, then the text, read into a slice as long as the variable count."""
+    """The file's calls; the text, read into a slice as long as the variable count; the clauses."""
     jobfile.run_fields(calls, data)
     told = calls.solution([0] * calls.job.variables, text)
-    if told.status != 0:
-        raise jobfile.Refused(len(list(jobfile.fields(data))), told.status)
+    status = told.status
+    if told.value:
+        status = calls.check_clauses(told.lent)
+    if status != 0:
+        raise jobfile.Refused(len(list(jobfile.fields(data))), status)
     return choice(calls, told.lent) if told.value else ["none"]
 
 

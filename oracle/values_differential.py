@@ -4,9 +4,10 @@
   values_differential.py SEED [SEED..] [--count COUNT] [--values PATH]
 
 For each seed there are COUNT files, the same ones that jobfiles.py writes. An accepted file is
-given texts of any assignment of its variables, since the clauses are not tested, unsatisfiable and
-damaged ones (texts.py), a refused file one of them. Some texts are as long as the program can
-read, or one byte longer: then nothing may be printed, and something said on standard error.
+given texts of any assignment of its variables, unsatisfiable and damaged ones (texts.py), a refused
+file one of them. An accepted file for which a satisfying assignment is soon found (sought.py) is
+given texts of such ones, and of these with one bit turned. Some texts are as long as the program
+can read, or one byte longer: then nothing may be printed, and something said on standard error.
 """
 
 import argparse
@@ -24,9 +25,13 @@ from cnf_differential import add_file_options
 from differential import answer_of, difference
 from driver import Driver
 from jobfiles import drawn_files
+from readings import bit_turned
+from sought import sought
 
 VALUES = Path(__file__).resolve().parent.parent / "target" / "bin" / "values"
 PER_FILE = 3
+SATISFYING = 2
+LIMIT = 1_000
 SELDOM = 0.03
 
 
@@ -51,13 +56,25 @@ def drawn_text(rng, variables):
     return ", ".join(damages) or "whole", text
 
 
+def satisfying_texts(rng, calls):
+    """Texts of satisfying assignments, each also with one bit turned, and what was done to them."""
+    drawn = [sought(rng, calls, LIMIT) for _ in range(SATISFYING)]
+    for assignment in [assignment for assignment in drawn if assignment is not None]:
+        yield "satisfying", texts.of_assignment(rng, assignment)
+        if assignment:
+            turned = bit_turned(rng, assignment, rng.randrange(len(assignment)))
+            yield "one bit turned", texts.of_assignment(rng, turned)
+
+
 def drawn_pairs(driver, seed, count):
     """What was done to a file and to a text, the file, the text."""
     rng = random.Random(f"values {seed}")
     for name, data in drawn_files(driver, seed, count):
         printed, calls = jobfile.answer(driver, data)
-        for _ in range(1 if printed.startswith(b"refused") else PER_FILE):
-            done, text = drawn_text(rng, calls.job.variables)
+        refused = printed.startswith(b"refused")
+        given = [drawn_text(rng, calls.job.variables) for _ in range(1 if refused else PER_FILE)]
+        given += [] if refused else satisfying_texts(rng, calls)
+        for done, text in given:
             yield f"file {name}, text {done}", data, text
 
 

@@ -15,7 +15,7 @@ from pathlib import Path
 import jobfile
 import values
 from answers import SATISFIABLE, printed
-from book import read_back, satisfying, written
+from book import assignment_of
 from driver import Driver
 from jobfiles import field
 from judge import add_driver_option
@@ -46,25 +46,6 @@ def is_varied(choice, switches):
     """Whether a choice has switches of both answers, and numbers of both signs."""
     numbers = choice[switches:]
     return len(set(choice[:switches])) == 2 and min(numbers) < 0 < max(numbers)
-
-
-def literals_of(job, choice):
-    """The literals of switches and setting bits that hold in a choice."""
-    held = [2 * switch + 1 - value for switch, value in enumerate(choice[: job.switches])]
-    for setting, number in zip(job.settings, choice[job.switches :]):
-        code = number - setting.offset
-        held += [lit ^ 1 ^ (code >> bit & 1) for bit, lit in enumerate(setting.used())]
-    return held
-
-
-def assignment_of(calls, choice):
-    """The assignment that satisfies the clauses and reads back as a choice."""
-    units = [{lit} for lit in literals_of(calls.job, choice)]
-    clauses = [frozenset(clause) for clause in [*written(calls), *units]]
-    (found,) = satisfying(clauses, {}, calls.job.variables)
-    if read_back(calls, found) != choice:
-        raise AssertionError("the assignment reads back otherwise")
-    return found
 
 
 def text_of(assignment):
