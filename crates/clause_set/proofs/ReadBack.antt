@@ -104,6 +104,7 @@ unfolding add-clause
 still-sound s c o p q =
     record {
       last-end = new-end s c q;
+      rising = λ k h. rises k h (eqb k (s .count)) refl;
       ends-in = within;
       lits-in = omega (arith, length-sets (s .lits) (s .used) c);
       ends-long = omega (arith, length-set (s .ends) (s .count + 1) (0 + (s .used + length c)));
@@ -115,6 +116,13 @@ still-sound s c o p q =
         go : (t : Bool) → eqb k (s .count + 1) ≡ t → getD (add-clause 0 c s .ends) k 0 ≤ s .used + length c
         go true e = let d = eqb-true k (s .count + 1) e in rw (d, new-end s c q) (omega arith)
         go false e = let d = eqb-false k (s .count + 1) e in omega (arith, old-end s c k (omega arith), o .ends-in k (omega arith))
+
+    -- the new clause begins where the last one ended
+    rises : (k : ℕ) → k < s .count + 1 → (t : Bool) → eqb k (s .count) ≡ t → getD (add-clause 0 c s .ends) k 0 ≤ getD (add-clause 0 c s .ends) (k + 1) 0
+    rises k h true e = let d = eqb-true k (s .count) e in rw (d, new-end s c q) (omega (arith, old-end s c (s .count) (omega arith), o .last-end))
+    rises k h false e =
+        let d = eqb-false k (s .count) e in
+        omega (arith, old-end s c k (omega arith), old-end s c (k + 1) (omega arith), o .rising k (omega arith))
 
 sound-after : (cs : Clauses) (s : Stores) → Sound s → s .used + entries cs ≤ length (s .lits) → s .count + length cs < length (s .ends) → Sound (add-clauses 0 cs s)
 unfolding add-clause

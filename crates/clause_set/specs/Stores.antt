@@ -72,9 +72,10 @@ clauses-after lits ends begin k (suc n) =
 abbrev pub clauses-of : Stores → Clauses
 clauses-of s = clauses-from (s .lits) (s .ends) 0 (s .count)
 
--- the last end is the literal count, no end passes it, and the counts are within the stores
+-- the last end is the literal count, no end falls or passes it, and the counts are within the stores
 pub record Sound (s : Stores) : Type 0 where
   pub last-end : getD (s .ends) (s .count) 0 ≡ s .used
+  pub rising : (k : ℕ) → k < s .count → getD (s .ends) k 0 ≤ getD (s .ends) (k + 1) 0
   pub ends-in : (k : ℕ) → k ≤ s .count → getD (s .ends) k 0 ≤ s .used
   pub lits-in : s .used ≤ length (s .lits)
   pub ends-long : s .count < length (s .ends)

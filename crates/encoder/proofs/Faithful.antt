@@ -1,4 +1,5 @@
--- Demand 3 (`demand-3`): the statement follows from what every call keeps, and every call keeps it.
+-- Demand 3 (`demand-3`) and that readings are tested (`readings-tested`): the statements follow from what every call keeps, and every call
+-- keeps it.
 use Prim.Native.Nat.{_<_, _≤_, suc, zero, ℕ}
 use lib.Dec.{eqb}
 use lib.IntN.{pos}
@@ -24,6 +25,8 @@ use Rattle.encoder_env.specs.WellFormed.{encoding-at}
 use Rattle.encoder_env.proofs.Kept.{Kept, kept}
 use Rattle.encoder_env.proofs.Bounds.{well-formed-is}
 use Rattle.encoder_env.proofs.Records.{lits-known}
+use Rattle.encoder_clauses.specs.Readable.{Readable, readable}
+use Rattle.encoder_clauses.proofs.Reading.{readable-is}
 use Rattle.encoder_answer.specs.Encoded.{number}
 use Rattle.encoder_read.specs.Calls.{clause-checks, clause-read, open-outcome, read-checks, value-read}
 use Rattle.encoder_var.specs.Settings.{setting-checks, setting-outcome, with-encoding}
@@ -33,9 +36,10 @@ use Rattle.encoder_linear.specs.Sums.{linear-checks, sum-encoded}
 use Rattle.encoder_env.specs.declared.EncoderEnv.{EncoderEnv}
 use Rattle.encoder_answer.specs.Outcome.{Check, Outcome, settled, status-of}
 use Rattle.encoder_read.proofs.Acceptance.{read-accepted}
-use Rattle.encoder_read.proofs.Known.{bits-at}
+use Rattle.encoder_read.proofs.Known.{bits-at, bits-by}
 use Rattle.encoder_answer.proofs.Statuses.{settled-accepted, settled-known, settled-refused}
 use Rattle.encoder.specs.Faithful.{Demand3, ExactlyOne, Faithful, ReadsBack, Satisfies, written}
+use Rattle.encoder.specs.Tested.{ReadingsTested, Tested}
 use Rattle.encoder.specs.Run.{Call, State, answered, book, clause, encode-binary, encode-linear, encode-list, encode-mul, encode-range, enter, feed, get-int-value, left, outcome, run}
 use Rattle.encoder.proofs.Invariant.{Invariant, number-agree, opened-invariant}
 use Rattle.encoder.proofs.RuleKept.{product-kept, sum-kept}
@@ -68,25 +72,16 @@ module _ (s : State) (b : NormCsp) (cs : Clauses) (inv : Invariant s b cs) where
   job : Kept (s .env) (length (s .lits)) (length (s .ends))
   job = kept (s .env) (length (s .lits)) (length (s .ends)) (inv .well)
 
-  -- Readings
+  -- the clauses written can be read
+  clauses-readable : Readable (s .env) (s .lits) (s .ends)
+  clauses-readable =
+      record {
+        rising = inv .ends-sound .rising;
+        inside = inv .ends-sound .ends-in;
+        below = subst (ClausesBelow v) (sym (inv .held)) (inv .below);
+      }
+
   module _ (bytes : List ℕ) (is : IsAssignment v bytes) where
-    read-status : (x : ℕ) → x < n → outcome s (get-int-value x bytes) .status ≡ 0
-    read-status x h =
-        read-accepted (s .env) (s .lits) (s .ends) x bytes .1
-        (record {
-          job = well-formed-is (s .env) (length (s .lits)) (length (s .ends)) .0 (inv .well);
-          setting = omega (arith, inv .count);
-          long = is .long;
-          bits = λ i _. bits-at bytes i (is .bits);
-        })
-
-    read-value : (x : ℕ) → x < n → outcome s (get-int-value x bytes) .value ≡ number (s .env) (truth bytes) x
-    read-value x h =
-        let e = encoding-at (s .env) x in
-        let known : LitsBelow (length bytes) (lits-of e) = rw (is .long) (lits-known (s .env) (length (s .lits)) (length (s .ends)) x job (omega (arith, inv .count))) in
-        ap (λ (o : Outcome). o .value) (settled-known (status-of (read-checks (s .env) (length (s .lits)) (length (s .ends)) x bytes)) (s .env) (s .lits) (s .ends) _ (read-status x h) .1)
-        ∙ read-bytes-is bytes e (is .bits) known
-
     -- switch i of the bytes
     switch-value : (i : ℕ) → i < b .switches → eqb (getD bytes i 0) 1 ≡ truth bytes i
     switch-value i h = ap (λ (x : ℕ). eqb x 1) (getD-within bytes i 0 2 (omega (arith, is .long, inv .switches, job .switches-in)))
@@ -96,12 +91,33 @@ module _ (s : State) (b : NormCsp) (cs : Clauses) (inv : Invariant s b cs) where
         let below = subst (λ (m : ℕ). ClausesBelow m cs) (sym (is .long)) (inv .below) in
         ap (all-hold bytes) (inv .held) ∙ all-hold-sat bytes cs (is .bits) below
 
+  -- Readings under an assignment that satisfies the clauses
+  module _ (bytes : List ℕ) (sat : Satisfies s bytes) where
+    read-status : (x : ℕ) → x < n → outcome s (get-int-value x bytes) .status ≡ 0
+    read-status x h =
+        read-accepted (s .env) (s .lits) (s .ends) x bytes .1
+        (record {
+          job = well-formed-is (s .env) (length (s .lits)) (length (s .ends)) .0 (inv .well);
+          clauses = clauses-readable;
+          setting = omega (arith, inv .count);
+          long = sat .assigns .long;
+          bits = λ i _. bits-at bytes i (sat .assigns .bits);
+          satisfied = sat .clauses;
+        })
+
+    read-value : (x : ℕ) → x < n → outcome s (get-int-value x bytes) .value ≡ number (s .env) (truth bytes) x
+    read-value x h =
+        let e = encoding-at (s .env) x in
+        let known : LitsBelow (length bytes) (lits-of e) = rw (sat .assigns .long) (lits-known (s .env) (length (s .lits)) (length (s .ends)) x job (omega (arith, inv .count))) in
+        ap (λ (o : Outcome). o .value) (settled-known (status-of (read-checks (s .env) (s .lits) (s .ends) x bytes)) (s .env) (s .lits) (s .ends) _ (read-status x h) .1)
+        ∙ read-bytes-is bytes e (sat .assigns .bits) known
+
     -- where the switches and numbers are those of a choice, the bytes read back as it
     reads-back : (ch : Valuation) → Agree (b .switches) (truth bytes) (switch-of ch) → ((x : ℕ) → x < n → number (s .env) (truth bytes) x ≡ number-of ch x)
         → ReadsBack s b bytes ch
     reads-back ch same numbers =
         record {
-          switches = λ i h. switch-value i h ∙ same i h;
+          switches = λ i h. switch-value bytes (sat .assigns) i h ∙ same i h;
           accepted = read-status;
           numbers = λ x h. read-value x h ∙ numbers x h;
         }
@@ -124,7 +140,7 @@ module _ (s : State) (b : NormCsp) (cs : Clauses) (inv : Invariant s b cs) where
           all-numbers = first-long n (number (s .env) α);
           satisfied = satisfied-agree b α (switch-of (reading α)) (number (s .env) α) (number-of (reading α)) (inv .known) same numbers (inv .sound α (satisfied bytes h));
         },
-        reads-back bytes (h .assigns) (reading α) same numbers,
+        reads-back bytes h (reading α) same numbers,
       )
 
   each : (ch : Valuation) → Meets b ch → ExactlyOne (λ bytes. Satisfies s bytes × ReadsBack s b bytes ch)
@@ -134,25 +150,40 @@ module _ (s : State) (b : NormCsp) (cs : Clauses) (inv : Invariant s b cs) where
       let is = to-bytes-assign v β in
       let agree = to-bytes-agree v β in
       let holds : So (sat (truth bytes) cs) = subst So (sat-agree v β (truth bytes) agree cs (inv .below)) h in
+      let satisfies : Satisfies s bytes = record { assigns = is; clauses = clauses-are bytes is ∙ holds } in
       let same-switch : Agree (b .switches) (truth bytes) (switch-of ch) =
       λ i k. sym (agree i (omega (arith, inv .switches, job .switches-in))) ∙ sym (same i k) in
       let same-number : (x : ℕ) → x < n → number (s .env) (truth bytes) x ≡ number-of ch x =
       λ x k. sym (number-agree s b cs inv β (truth bytes) agree x k) ∙ numbers x k in (
         bytes,
-        (
-          record { assigns = is; clauses = clauses-are bytes is ∙ holds },
-          reads-back bytes is ch same-switch same-number,
-        ),
+        (satisfies, reads-back bytes satisfies ch same-switch same-number),
         λ other p.
             let js = p .0 .assigns in
             bytes-unique v other bytes js is
             (inv .unique (truth other) (truth bytes) (satisfied other (p .0)) holds
             (λ i k. sym (switch-value other js i k) ∙ p .1 .switches i k ∙ sym (same-switch i k))
-            (λ x k. sym (read-value other js x k) ∙ p .1 .numbers x k ∙ sym (same-number x k))),
+            (λ x k. sym (read-value other (p .0) x k) ∙ p .1 .numbers x k ∙ sym (same-number x k))),
       )
 
   faithful : Faithful s b
   faithful = record { each = each; every = every }
+
+  -- A reading is accepted only under an assignment that satisfies the clauses, and its value is then one that the setting permits
+  reading-known : (x : ℕ) (bytes : List ℕ) → outcome s (get-int-value x bytes) .status ≡ 0 → (x < n) × Satisfies s bytes
+  reading-known x bytes h =
+      let a = read-accepted (s .env) (s .lits) (s .ends) x bytes .0 h in
+      (omega (arith, a .setting, inv .count), record { assigns = record { long = a .long; bits = bits-by bytes (a .bits) }; clauses = a .satisfied })
+
+  tested : Tested s b
+  tested =
+      record {
+        exact = λ x bytes. (reading-known x bytes, λ k. read-status bytes (k .1) x (k .0));
+        permitted =
+            λ x bytes h.
+            let (lt, sat) = reading-known x bytes h in
+            satisfied-agree b (truth bytes) (λ i. eqb (getD bytes i 0) 1) (number (s .env) (truth bytes)) (λ y. outcome s (get-int-value y bytes) .value) (inv .known)
+            (λ i k. sym (switch-value bytes (sat .assigns) i k)) (λ y k. sym (read-value bytes sat y k)) (inv .sound (truth bytes) (satisfied bytes sat)) .values x lt;
+      }
 
 -- Every call keeps the invariant -------------------------------------------------------------------------------------
 
@@ -181,7 +212,7 @@ setting-refused s repr h =
     adding-refused s (setting-checks (s .env) (length (s .lits)) (length (s .ends)) repr) (out .clauses) (with-encoding (s .env) out) h
 
 reading-left : (s : State) (x : ℕ) (bytes : List ℕ) → left (outcome s (get-int-value x bytes)) ≡ s
-reading-left s x bytes = settled-left (status-of (read-checks (s .env) (length (s .lits)) (length (s .ends)) x bytes)) s (value-read (s .env) (s .lits) (s .ends) x bytes) (λ e. refl)
+reading-left s x bytes = settled-left (status-of (read-checks (s .env) (s .lits) (s .ends) x bytes)) s (value-read (s .env) (s .lits) (s .ends) x bytes) (λ e. refl)
 
 clause-left : (s : State) (k : ℕ) → left (outcome s (clause k)) ≡ s
 clause-left s k = settled-left (status-of (clause-checks (s .env) (length (s .lits)) (s .ends) k)) s (clause-read (s .env) (s .lits) (s .ends) k) (λ e. refl)
@@ -241,5 +272,14 @@ module _ (switches : ℕ) (lits ends : List ℕ) (opened : open-outcome switches
         ap entries (inv .held) ∙ inv .counted,
       )
 
+  -- and they can be read
+  pub run-readable : readable (end .env) (end .lits) (end .ends) ≡ true
+  run-readable =
+      let (ds, inv) = invariant in
+      readable-is (end .env) (end .lits) (end .ends) .1 (well-formed-is (end .env) (length (end .lits)) (length (end .ends)) .0 (inv .well), clauses-readable end _ ds inv)
+
 pub demand-3 : Demand3
 demand-3 switches lits ends h calls = let (ds, inv) = invariant switches lits ends h calls in faithful _ _ ds inv
+
+pub readings-tested : ReadingsTested
+readings-tested switches lits ends h calls = let (ds, inv) = invariant switches lits ends h calls in tested _ _ ds inv

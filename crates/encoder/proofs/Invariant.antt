@@ -92,6 +92,7 @@ module _ (n : ℕ) (lits ends : List ℕ) where
         ends-sound =
             record {
               last-end = first;
+              rising = λ k h. absurd (omega arith);
               ends-in = λ k h. let z : k ≡ 0 = omega arith in rw z (omega (arith, first));
               lits-in = omega arith;
               ends-long = omega arith;

@@ -57,7 +57,7 @@ call-long s (encode-mul x y m) =
     let out = product-encoded (s .env) x y m in
     adding-long (s .env) (s .lits) (s .ends) (mul-checks (s .env) (length (s .lits)) (length (s .ends)) x y m) (out .clauses) (grown (s .env) (out .vars) (out .clauses))
 call-long s (get-int-value x bytes) =
-    settled-long (s .env) (s .lits) (s .ends) (status-of (read-checks (s .env) (length (s .lits)) (length (s .ends)) x bytes)) (value-read (s .env) (s .lits) (s .ends) x bytes) (refl, refl)
+    settled-long (s .env) (s .lits) (s .ends) (status-of (read-checks (s .env) (s .lits) (s .ends) x bytes)) (value-read (s .env) (s .lits) (s .ends) x bytes) (refl, refl)
 call-long s (clause k) =
     settled-long (s .env) (s .lits) (s .ends) (status-of (clause-checks (s .env) (length (s .lits)) (s .ends) k)) (clause-read (s .env) (s .lits) (s .ends) k) (refl, refl)
 

@@ -8,8 +8,9 @@ use mathlib.Core.List.{List}
 use mathlib.Core.Path.{_≡_}
 use Rattle.sat.specs.Clause.{Clauses}
 use Rattle.clause_set.specs.Bytes.{IsAssignment, all-hold}
-use Rattle.clause_set.specs.Stores.{Stores, clauses-of, stores}
+use Rattle.clause_set.specs.Stores.{Stores, stores}
 use Rattle.norm_csp.specs.NormCsp.{Meets, NormCsp, Valuation, begun, number-of, switch-of}
+use Rattle.encoder_clauses.specs.Readable.{clauses-written}
 use Rattle.encoder_read.specs.Calls.{open-outcome}
 use Rattle.encoder.specs.Run.{Call, State, answered, book, get-int-value, left, outcome, run}
 
@@ -19,7 +20,7 @@ stores-of s = stores (s .lits) (s .ends) (s .env .literals) (s .env .clauses)
 
 -- the clauses written: all those below the job's clause count, as the stores hold them
 abbrev pub written : State → Clauses
-written s = clauses-of (stores-of s)
+written s = clauses-written (s .env) (s .lits) (s .ends)
 
 -- an assignment of the job's variables that satisfies them: each has a literal that holds
 pub record Satisfies (s : State) (bytes : List ℕ) : Type 0 where

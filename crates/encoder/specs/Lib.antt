@@ -1,3 +1,4 @@
 pub mod Run
 pub mod Faithful
+pub mod Tested
 pub mod Bench

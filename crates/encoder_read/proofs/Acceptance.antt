@@ -6,10 +6,13 @@ use mathlib.Core.Logic.{Iff·trans, _↔_}
 use Prim.Native.Nat.{_+_, _<_, _≤_, ℕ}
 use lib.Dec.{eqb, leb, ltb}
 use lib.ListN.{getD, length}
+use Rattle.clause_set.specs.Bytes.{all-hold}
 use Rattle.encoder_env.specs.declared.EncoderEnv.{EncoderEnv}
 use Rattle.encoder_env.specs.Bounds.{WellFormed}
 use Rattle.encoder_env.specs.WellFormed.{stores-within, well-formed}
 use Rattle.encoder_env.proofs.Bounds.{all-is, and-is, eqb-is, leb-is, ltb-is, well-formed-is}
+use Rattle.encoder_clauses.specs.Readable.{Readable, clauses-written, readable}
+use Rattle.encoder_clauses.proofs.Reading.{readable-is}
 use Rattle.encoder_answer.specs.Outcome.{status-of}
 use Rattle.encoder_answer.proofs.Acceptance.{check-is, last-is, settled-is}
 use Rattle.encoder_read.specs.Accepted.{ClauseAccepted, OpenAccepted, ReadAccepted}
@@ -34,21 +37,24 @@ module _ (switches : ℕ) (lits ends : List ℕ) where
       )
 
 module _ (env : EncoderEnv) (lits ends : List ℕ) (x : ℕ) (assignment : List ℕ) where
-  read-checked : (status-of (read-checks env (length lits) (length ends) x assignment) ≡ 0)
-      ↔ (WellFormed env (length lits) (length ends) × ((x < env .count)
-      × ((length assignment ≡ env .variables) × ((i : ℕ) → i < length assignment → getD assignment i 0 ≤ 1))))
+  read-checked : (status-of (read-checks env lits ends x assignment) ≡ 0)
+      ↔ ((WellFormed env (length lits) (length ends) × Readable env lits ends) × ((x < env .count)
+      × (((length assignment ≡ env .variables) × ((i : ℕ) → i < length assignment → getD assignment i 0 ≤ 1)) × (all-hold assignment (clauses-written env lits ends) ≡ true))))
   read-checked =
-      check-is (well-formed env (length lits) (length ends)) _ 0 (well-formed-is env (length lits) (length ends))
+      check-is (readable env lits ends) _ 0 (readable-is env lits ends)
       (check-is (ltb x (env .count)) _ 7 (ltb-is x (env .count))
-      (last-is (eqb (length assignment) (env .variables) && all-bits assignment) 15
+      (check-is (eqb (length assignment) (env .variables) && all-bits assignment) _ 15
       (and-is (eqb (length assignment) (env .variables)) (all-bits assignment) (eqb-is (length assignment) (env .variables))
-      (all-is (λ i. leb (getD assignment i 0) 1) (length assignment) (λ i. leb-is (getD assignment i 0) 1)))))
+      (all-is (λ i. leb (getD assignment i 0) 1) (length assignment) (λ i. leb-is (getD assignment i 0) 1)))
+      (last-is (all-hold assignment (clauses-written env lits ends)) 20 (λ h. h, λ h. h))))
 
-  pub read-accepted : (read-outcome env lits ends x assignment .status ≡ 0) ↔ ReadAccepted env (length lits) (length ends) x assignment
+  pub read-accepted : (read-outcome env lits ends x assignment .status ≡ 0) ↔ ReadAccepted env lits ends x assignment
   read-accepted =
-      Iff·trans (settled-is (status-of (read-checks env (length lits) (length ends) x assignment)) env lits ends (value-read env lits ends x assignment) refl) (
-        λ h. let c = read-checked .0 h in record { job = c .0; setting = c .1 .0; long = c .1 .1 .0; bits = c .1 .1 .1 },
-        λ a. read-checked .1 (a .job, (a .setting, (a .long, a .bits))),
+      Iff·trans (settled-is (status-of (read-checks env lits ends x assignment)) env lits ends (value-read env lits ends x assignment) refl) (
+        λ h.
+            let c = read-checked .0 h in
+            record { job = c .0 .0; clauses = c .0 .1; setting = c .1 .0; long = c .1 .1 .0 .0; bits = c .1 .1 .0 .1; satisfied = c .1 .1 .1 },
+        λ a. read-checked .1 ((a .job, a .clauses), (a .setting, ((a .long, a .bits), a .satisfied))),
       )
 
 module _ (env : EncoderEnv) (lits ends : List ℕ) (k : ℕ) where

@@ -1,16 +1,20 @@
--- The outcome of opening a job, reading a setting and handing back a clause, on every input (document 01: operation by operation).
+-- The outcome of opening a job, reading a setting and handing back a clause, on every input (document 01: operation by operation; of a
+-- reading also document 02, #104).
 use Prim.Native.Nat.{_+_, ℕ}
 use lib.Dec.{eqb, leb, ltb}
 use lib.IntN.{pos}
 use lib.ListN.{getD, length, replicate, set}
-use mathlib.Core.Bool.{Bool, _&&_}
+use mathlib.Core.Bool.{Bool, _&&_, cond}
 use mathlib.Core.List.{List, [], _∷_}
+use mathlib.Core.Path.{_≡_}
 use Rattle.sat.specs.LitArray.{lit}
 use Rattle.log_var.specs.Record.{read-bytes}
 use Rattle.log_var.specs.declared.LogEncoding.{LogEncoding}
+use Rattle.clause_set.specs.Bytes.{all-hold}
 use Rattle.clause_set.specs.Stores.{clause-at}
 use Rattle.encoder_env.specs.declared.EncoderEnv.{EncoderEnv}
 use Rattle.encoder_env.specs.WellFormed.{all-below, encoding-at, stores-within, well-formed}
+use Rattle.encoder_clauses.specs.Readable.{clauses-written, readable}
 use Rattle.encoder_answer.specs.Outcome.{Check, Outcome, check, settled, status-of}
 
 -- Open ---------------------------------------------------------------------------------------------------------------
@@ -57,13 +61,18 @@ clause-outcome env lits ends k = settled (status-of (clause-checks env (length l
 abbrev pub all-bits : List ℕ → Bool
 all-bits bytes = all-below (length bytes) (λ i. leb (getD bytes i 0) 1)
 
--- 8 a setting unknown; 16 the assignment's length is not the variable count, or a byte other than 0 and 1
-abbrev pub read-checks : EncoderEnv → ℕ → ℕ → ℕ → List ℕ → List Check
-read-checks env lits ends x assignment =
-    check (well-formed env lits ends) 1
-    ∷ check (ltb x (env .count)) 8
-    ∷ check (eqb (length assignment) (env .variables) && all-bits assignment) 16
-    ∷ []
+-- an assignment of that many variables: as many bytes, and no other than 0 and 1
+abbrev pub is-assignment : ℕ → List ℕ → Bool
+is-assignment variables bytes = eqb (length bytes) variables && all-bits bytes
+
+-- 16 no assignment of the job's variables; 21 one that leaves a clause unsatisfied (#104)
+abbrev pub bytes-checks : EncoderEnv → List ℕ → List ℕ → List ℕ → List Check
+bytes-checks env lits ends assignment =
+    check (is-assignment (env .variables) assignment) 16 ∷ check (all-hold assignment (clauses-written env lits ends)) 21 ∷ []
+
+-- 1 job and clauses; 8 a setting unknown; then the assignment
+abbrev pub read-checks : EncoderEnv → List ℕ → List ℕ → ℕ → List ℕ → List Check
+read-checks env lits ends x assignment = check (readable env lits ends) 1 ∷ check (ltb x (env .count)) 8 ∷ bytes-checks env lits ends assignment
 
 -- an accepted reading changes nothing
 abbrev pub value-read : EncoderEnv → List ℕ → List ℕ → ℕ → List ℕ → Outcome
@@ -72,4 +81,21 @@ value-read env lits ends x assignment =
 
 abbrev pub read-outcome : EncoderEnv → List ℕ → List ℕ → ℕ → List ℕ → Outcome
 read-outcome env lits ends x assignment =
-    settled (status-of (read-checks env (length lits) (length ends) x assignment)) env lits ends (value-read env lits ends x assignment)
+    settled (status-of (read-checks env lits ends x assignment)) env lits ends (value-read env lits ends x assignment)
+
+-- Test ---------------------------------------------------------------------------------------------------------------
+
+-- the test of an assignment alone, for many readings under it: the checks of a reading but for the setting's
+abbrev pub test-status : EncoderEnv → List ℕ → List ℕ → List ℕ → ℕ
+test-status env lits ends assignment = status-of (check (readable env lits ends) 1 ∷ bytes-checks env lits ends assignment)
+
+-- the number of a reading, by that of the test and whether the setting is known: 1 of the test, then 8, then 16 or 21 of the test
+abbrev pub by-test : ℕ → Bool → ℕ
+by-test tested known = cond (eqb tested 1) 1 (cond known tested 8)
+
+-- the test, and a reading after it, answer together what the reading answers, on every input
+abbrev pub TestThenRead : Type 0
+TestThenRead =
+    (env : EncoderEnv) (lits ends : List ℕ) (x : ℕ) (assignment : List ℕ)
+    → read-outcome env lits ends x assignment
+    ≡ settled (by-test (test-status env lits ends assignment) (ltb x (env .count))) env lits ends (value-read env lits ends x assignment)

@@ -1,12 +1,16 @@
 // The opening of a job, the reading of a setting and the handing back of a clause.
+ghost use mathlib.Core.Bool.{true};
 ghost use mathlib.Core.Path.{_≡_};
 ghost use Prim.Native.Nat.{_+_, _<_};
 ghost use Rattle.encoder_answer.specs.Outcome.{Answers, status-of};
-ghost use Rattle.encoder_read.specs.Calls.{all-bits, clause-checks, clause-outcome, open-checks, open-outcome, opened, read-checks, read-outcome};
+ghost use Rattle.encoder_clauses.specs.Readable.{readable};
+ghost use Rattle.encoder_read.specs.Calls.{all-bits, bytes-checks, clause-checks, clause-outcome, is-assignment, open-checks, open-outcome, opened, read-checks, read-outcome, test-status};
 use clause_set::clause_part;
 use clause_set::entry;
 use encoder_answer::Answer;
 use encoder_answer::refusal;
+use encoder_clauses::readable;
+use encoder_clauses::satisfies;
 use encoder_env::EncoderEnv;
 use encoder_env::stores_within;
 use encoder_env::well_formed;
@@ -108,7 +112,7 @@ pub fn clause<'a>(
 }
 
 // Whether every byte is 0 or 1.
-pub fn all_bits(assignment: &[u8]) -> bool
+fn all_bits(assignment: &[u8]) -> bool
     ensures { λ r. ⌜ r ≡ all-bits (now (assignment .entry)) ⌝ }
 {
     let mut i: usize = 0;
@@ -121,26 +125,72 @@ pub fn all_bits(assignment: &[u8]) -> bool
     true
 }
 
-// The checks of a reading.
-fn read_status(env: EncoderEnv, lits: usize, ends: usize, x: u32, assignment: &[u8]) -> u32
-    ensures { λ r. ⌜ r ≡ status-of (read-checks env lits ends x (now (assignment .entry))) ⌝ }
+// Whether the bytes are an assignment of that many variables.
+pub fn is_assignment(variables: u32, assignment: &[u8]) -> bool
+    ensures { λ r. ⌜ r ≡ is-assignment variables (now (assignment .entry)) ⌝ }
 {
-    if !well_formed(env, lits, ends) {
+    if assignment.len() != variables as usize {
+        return false;
+    }
+    all_bits(assignment)
+}
+
+// The checks of an assignment, where the clauses can be read.
+fn bytes_status(env: EncoderEnv, lits: &[u32], ends: &[u32], assignment: &[u8]) -> u32
+    requires { ⌜ readable env (now lits) (now ends) ≡ true ⌝ }
+    ensures { λ r. ⌜ r ≡ status-of (bytes-checks env (now (lits .entry)) (now (ends .entry)) (now (assignment .entry))) ⌝ }
+{
+    if !is_assignment(env.variables, assignment) {
+        return 16;
+    }
+    if !satisfies(env, lits, ends, assignment) {
+        return 21;
+    }
+    0
+}
+
+// The checks of a reading.
+fn read_status(env: EncoderEnv, lits: &[u32], ends: &[u32], x: u32, assignment: &[u8]) -> u32
+    ensures { λ r. ⌜ r ≡ status-of (read-checks env (now (lits .entry)) (now (ends .entry)) x (now (assignment .entry))) ⌝ }
+{
+    if !readable(env, lits, ends) {
         return 1;
     }
     if x >= env.count {
         return 8;
     }
-    if assignment.len() != env.variables as usize {
-        return 16;
-    }
-    if !all_bits(assignment) {
-        return 16;
-    }
-    0
+    bytes_status(env, lits, ends, assignment)
 }
 
-// The value of setting x under an assignment.
+// Tests an assignment for many readings: 0 where it satisfies every clause, else 1, 16 or 21.
+pub fn test_assignment(env: EncoderEnv, lits: &[u32], ends: &[u32], assignment: &[u8]) -> u32
+    ensures { λ r. ⌜ r ≡ test-status env (now (lits .entry)) (now (ends .entry)) (now (assignment .entry)) ⌝ }
+{
+    if !readable(env, lits, ends) {
+        return 1;
+    }
+    bytes_status(env, lits, ends, assignment)
+}
+
+// The value of setting x under an assignment that was tested. It answers what `get_int_value` does and reads no clause; the stores are
+// those of the test.
+pub fn read_tested(env: EncoderEnv, lits: &[u32], ends: &[u32], x: u32, assignment: &[u8]) -> Answer
+    requires { ⌜ test-status env (now lits) (now ends) (now assignment) ≡ 0 ⌝ }
+    ensures { λ r. ⌜ Answers (read-outcome env (now (lits .entry)) (now (ends .entry)) x (now (assignment .entry))) r (now (lits .entry)) (now (ends .entry)) ⌝ }
+{
+    if env.count <= x {
+        return refusal(env, 8);
+    }
+    let e = env.encodings[x as usize];
+    let value = log_var::get_int_value(e, assignment);
+    Answer {
+        status: 0,
+        env,
+        value,
+    }
+}
+
+// The value of setting x under an assignment that satisfies every clause.
 pub fn get_int_value(
     env: EncoderEnv,
     lits: &[u32],
@@ -150,15 +200,9 @@ pub fn get_int_value(
 ) -> Answer
     ensures { λ r. ⌜ Answers (read-outcome env (now (lits .entry)) (now (ends .entry)) x (now (assignment .entry))) r (now (lits .entry)) (now (ends .entry)) ⌝ }
 {
-    let status = read_status(env, lits.len(), ends.len(), x, assignment);
+    let status = read_status(env, lits, ends, x, assignment);
     if status != 0 {
         return refusal(env, status);
     }
-    let e = env.encodings[x as usize];
-    let value = log_var::get_int_value(e, assignment);
-    Answer {
-        status: 0,
-        env,
-        value,
-    }
+    read_tested(env, lits, ends, x, assignment)
 }

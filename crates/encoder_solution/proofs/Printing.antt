@@ -3,7 +3,7 @@ use Prim.Native.Nat.{_<_, _≤_, ℕ}
 use borrow.Author.Tests.{eqb-true, le-leb, leb-true, lt-leb, ne-eqb}
 use lib.Dec.{eqb, leb}
 use lib.ListN.{length}
-use mathlib.Core.Bool.{Bool, _&&_, cond, false, true}
+use mathlib.Core.Bool.{Bool, cond, false, true}
 use mathlib.Core.List.{List, [], _++_, _∷_}
 use mathlib.Core.Path.{_∙_, _≡_, ap, refl, sym}
 use native.Mathlib.Omega.{arith}
@@ -14,7 +14,7 @@ use Rattle.encoder_env.proofs.Kept.{kept}
 use Rattle.encoder_env.proofs.Tests.{both}
 use Rattle.encoder_answer.specs.Outcome.{Check, check, status-of}
 use Rattle.encoder_answer.proofs.Statuses.{both-lists, passed, stops, then-rest}
-use Rattle.encoder_read.specs.Calls.{all-bits}
+use Rattle.encoder_read.specs.Calls.{all-bits, is-assignment}
 use Rattle.solver_answer.specs.declared.PrintedAnswer.the-variants.{Refused, Text}
 use Rattle.solver_answer.specs.Print.{print, print-said}
 use Rattle.solver_answer.proofs.Sizes.{print-size}
@@ -25,7 +25,7 @@ module _ (env : EncoderEnv) (lits ends bytes slice : List ℕ) {status : ℕ} (e
   pub assignment-small : status ≡ 0 → length bytes ≤ 65535
   assignment-small h =
       let w = passed (well-formed env (length lits) (length ends)) _ 0 (sym e ∙ h) in
-      let l = both (eqb (length bytes) (env .variables)) (all-bits bytes) (passed (eqb (length bytes) (env .variables) && all-bits bytes) 0 15 (w .1) .0) in
+      let l = both (eqb (length bytes) (env .variables)) (all-bits bytes) (passed (is-assignment (env .variables) bytes) 0 15 (w .1) .0) in
       omega (arith, eqb-true (length bytes) (env .variables) (l .0), kept env (length lits) (length ends) (w .0) .variables-max)
 
   pub print-refused : (status ≡ 0 → ⊥) → PrintsAnswer env lits ends bytes slice (Refused status) slice

@@ -1,6 +1,6 @@
 -- The print of an assignment, read back, yields the same bytes.
 use Prim.Native.Nat.{_≤_, ℕ}
-use borrow.Author.Tests.{eq-eqb, le-leb}
+use borrow.Author.Tests.{le-leb}
 use lib.ListN.{drop, length}
 use mathlib.Core.Bool.{true}
 use lib.Seq.{take-append-seam}
@@ -9,7 +9,7 @@ use mathlib.Core.Path.{_≡_}
 use Rattle.clause_set.specs.Bytes.{IsAssignment}
 use Rattle.encoder_env.specs.declared.EncoderEnv.{EncoderEnv}
 use Rattle.encoder_env.specs.WellFormed.{well-formed}
-use Rattle.encoder_read.proofs.Known.{bits-hold}
+use Rattle.encoder_read.proofs.Known.{assignment-holds}
 use Rattle.solver_answer.specs.declared.PrintedAnswer.the-variants.{Text}
 use Rattle.solver_answer.specs.declared.Solution.the-variants.{Assignment}
 use Rattle.solver_answer.specs.Answer.{assignment, said}
@@ -22,7 +22,7 @@ module _ (env : EncoderEnv) (lits ends : ℕ) (formed : well-formed env lits end
     (out slice : List ℕ) (fits : length (print bytes) ≤ length out) (long : length slice ≡ env .variables) where
   printed : print-answer env lits ends bytes (length out) ≡ Text (length (print bytes))
   unfolding print-answer
-  printed = rw (formed, eq-eqb (length bytes) (env .variables) (is .long), bits-hold bytes (is .bits), le-leb (length (print bytes)) (length out) fits)
+  printed = rw (formed, assignment-holds (env .variables) bytes is, le-leb (length (print bytes)) (length out) fits)
 
   text-is : written env lits ends bytes out ≡ print bytes
   unfolding print-said

@@ -2,13 +2,13 @@
 use Prim.Native.Nat.{ℕ}
 use lib.Dec.{eqb, leb}
 use lib.ListN.{length}
-use mathlib.Core.Bool.{_&&_, cond}
+use mathlib.Core.Bool.{cond}
 use mathlib.Core.List.{List, [], _++_, _∷_}
 use mathlib.Core.Path.{_≡_}
 use Rattle.encoder_env.specs.declared.EncoderEnv.{EncoderEnv}
 use Rattle.encoder_env.specs.WellFormed.{well-formed}
 use Rattle.encoder_answer.specs.Outcome.{Check, check, status-of}
-use Rattle.encoder_read.specs.Calls.{all-bits}
+use Rattle.encoder_read.specs.Calls.{is-assignment}
 use Rattle.solver_answer.specs.declared.PrintedAnswer.{PrintedAnswer}
 use Rattle.solver_answer.specs.declared.PrintedAnswer.the-variants as print
 use Rattle.solver_answer.specs.declared.Solution.{Solution}
@@ -29,10 +29,10 @@ pub record ReadsAnswer (env : EncoderEnv) (lits ends text slice : List ℕ) (r :
 
 -- Print --------------------------------------------------------------------------------------------------------------
 
--- 16 the assignment's length is not the variable count, or a byte other than 0 and 1
+-- 16 no assignment of the job's variables
 abbrev pub assignment-checks : EncoderEnv → ℕ → ℕ → List ℕ → List Check
 assignment-checks env lits ends bytes =
-    check (well-formed env lits ends) 1 ∷ check (eqb (length bytes) (env .variables) && all-bits bytes) 16 ∷ []
+    check (well-formed env lits ends) 1 ∷ check (is-assignment (env .variables) bytes) 16 ∷ []
 
 -- then 15 too little room
 abbrev pub print-checks : EncoderEnv → ℕ → ℕ → List ℕ → ℕ → List Check

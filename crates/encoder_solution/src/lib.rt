@@ -5,7 +5,7 @@ ghost use Rattle.encoder_answer.specs.Outcome.{status-of};
 ghost use Rattle.encoder_solution.specs.Answers.{PrintsAnswer, ReadsAnswer, assignment-checks};
 use encoder_env::EncoderEnv;
 use encoder_env::well_formed;
-use encoder_read::all_bits;
+use encoder_read::is_assignment;
 use solver_answer::PrintedAnswer;
 use solver_answer::Solution;
 use solver_print::print_assignment;
@@ -35,10 +35,7 @@ fn print_status(env: EncoderEnv, lits: usize, ends: usize, assignment: &[u8]) ->
     if !well_formed(env, lits, ends) {
         return 1;
     }
-    if assignment.len() != env.variables as usize {
-        return 16;
-    }
-    if !all_bits(assignment) {
+    if !is_assignment(env.variables, assignment) {
         return 16;
     }
     0

@@ -64,7 +64,7 @@ module _ (s : State) (b : NormCsp) (k : Counted s b) where
       (added (s .env) (s .lits) (s .ends) (out .clauses) (grown (s .env) (out .vars) (out .clauses))) (enter (encode-mul x y m) b) h
       (record { count = k .count; switches = k .switches })
   call-counted (get-int-value x bytes) h =
-      settled-counted (status-of (read-checks (s .env) (length (s .lits)) (length (s .ends)) x bytes)) (s .env) (s .lits) (s .ends)
+      settled-counted (status-of (read-checks (s .env) (s .lits) (s .ends) x bytes)) (s .env) (s .lits) (s .ends)
       (value-read (s .env) (s .lits) (s .ends) x bytes) b h k
   call-counted (clause n) h =
       settled-counted (status-of (clause-checks (s .env) (length (s .lits)) (s .ends) n)) (s .env) (s .lits) (s .ends)
@@ -114,4 +114,4 @@ pub values-printed : ValuesPrinted
 values-printed file lits ends text h found holds =
     let r = run-file file lits ends in
     let (ch, meets, back) = values-meet file lits ends text h holds in
-    (ch, meets, values-read file lits ends text h found .printed ∙ choice-printed (left-by r) (book-of file) (given r text) ch (file-counted file lits ends h) back)
+    (ch, meets, values-read file lits ends text h found holds .printed ∙ choice-printed (left-by r) (book-of file) (given r text) ch (file-counted file lits ends h) back)

@@ -10,6 +10,7 @@ use Rattle.dimacs.proofs.Sizes.{refused-size}
 use Rattle.dimacs.specs.Dimacs.{refused}
 use Rattle.encoder_env.specs.declared.EncoderEnv.{EncoderEnv}
 use Rattle.encoder_env.specs.WellFormed.{well-formed}
+use Rattle.encoder_read.specs.Calls.{test-status}
 use Rattle.encoder_solution.specs.Answers.{ReadsAnswer, read-answer}
 use Rattle.job_file.specs.Run.{JobRun, job-run, run-file}
 use Rattle.job_file.specs.declared.JobAnswer.{JobAnswer}
@@ -18,10 +19,11 @@ use Rattle.solver_answer.specs.declared.Solution.{Solution}
 use Rattle.solver_answer.specs.declared.Solution.the-variants.{Assignment, Refused, Unsatisfiable}
 use Rattle.text.proofs.Laws.{printed, printed-first, write-fits}
 use Rattle.text.specs.Bytes.{Printed, Text as Place, text as text-of, write}
+use Rattle.values_text.proofs.Sizes.{values-fit}
 use Rattle.values_text.specs.Values.{values-text}
 use Rattle.job_values.specs.declared.Values.{Values}
 use Rattle.job_values.specs.declared.Values.the-variants.{Text}
-use Rattle.job_values.specs.Values.{Stands, Told, accepted, answer-to, answer-values, by-answer, file-values, given, none-line, run-values}
+use Rattle.job_values.specs.Values.{Stands, Told, accepted, answer-to, answer-values, by-answer, by-test, file-values, given, none-line, run-values}
 use Rattle.job_values.proofs.Accepted.{file-formed}
 use Rattle.job_values.proofs.Sizes.{answer-size}
 
@@ -37,6 +39,20 @@ module _ (t out after : List ℕ) (r : ℕ) (fits : length t ≤ length out) whe
   written-stands n w =
       let e : r ≡ length t = ap (λ (x : Place). x .at) (w ∙ write-fits t out 0 (omega arith)) ∙ omega arith in
       record { within = omega (arith, n, e); bytes = subst (λ (k : ℕ). take k after ≡ t) (sym e) (printed-first t out after (length t) fits (printed t out after (omega arith) fits w)) }
+
+-- By what the test of an assignment answers --------------------------------------------------------------------------
+
+module _ (env : EncoderEnv) (field : ℕ) (lits ends bytes : List ℕ) (status : ℕ) (is : status ≡ test-status env lits ends bytes)
+    (out after : List ℕ) (r : ℕ) (room : 1440 ≤ length out) (same : length after ≡ length out) where
+  pub values-stand : status ≡ 0 → well-formed env (length lits) (length ends) ≡ true → text-of after r ≡ write (text-of out 0) (values-text env lits ends bytes)
+      → Stands (by-test (accepted field env lits ends) bytes) r after
+  unfolding by-test
+  values-stand z well w = rw (← is, z) (written-stands (values-text env lits ends bytes) out after r (omega (arith, values-fit env lits ends bytes well)) same w)
+
+  pub test-refused : (status ≡ 0 → ⊥) → field < 2 ^ 32 → status < 2 ^ 32 → Printed (refused field status) out r after
+      → Stands (by-test (accepted field env lits ends) bytes) r after
+  unfolding by-test
+  test-refused h f n p = rw (← is, ne-eqb status 0 h) (printed-stands (refused field status) out after r (omega (arith, refused-size field status f n)) same p)
 
 -- By what an answer is read as ---------------------------------------------------------------------------------------
 
@@ -58,12 +74,11 @@ module _ (env : EncoderEnv) (field : ℕ) (lits ends text slice : List ℕ) {s :
       let a : answer-to run text ≡ s = subst (λ (k : ℕ). read-answer env (length lits) (length ends) text k ≡ s) long (sym (reads .answer)) in
       ap (λ (y : Solution). by-answer y run text) (sym (a ∙ e))
 
-  pub assigned : s ≡ Assignment → text-of after r ≡ write (text-of out 0) (values-text env lits ends bytes) → Answered
+  pub assigned : s ≡ Assignment → Stands (by-test run bytes) r after → Answered
   unfolding by-answer said
   assigned e w =
       let b : bytes ≡ given run text = reads .bytes ∙ ap (λ (x : Solution). said x (given run text) slice .slice) e in
-      let t : values-text env lits ends bytes ≡ answer-values run text = ap (values-text env lits ends) b ∙ text-is Assignment e in
-      written-stands (answer-values run text) out after r fits same (w ∙ ap (write (text-of out 0)) t)
+      subst (λ (t : List ℕ). Stands t r after) (ap (by-test run) b ∙ text-is Assignment e) w
 
   pub none-found : s ≡ Unsatisfiable → text-of after r ≡ write (text-of out 0) none-line → Answered
   unfolding by-answer

@@ -11,6 +11,9 @@ use Rattle.dimacs.proofs.Sizes.{refused-size}
 use Rattle.dimacs.specs.Dimacs.{refused}
 use Rattle.encoder_env.specs.declared.EncoderEnv.{EncoderEnv}
 use Rattle.encoder_env.specs.WellFormed.{well-formed}
+use Rattle.clause_set.specs.Bytes.{all-hold}
+use Rattle.encoder_clauses.specs.Readable.{clauses-written, readable}
+use Rattle.encoder_read.specs.Calls.{is-assignment}
 use Rattle.encoder_solution.specs.Answers.{read-answer}
 use Rattle.job_file.specs.Run.{JobRun, run-file}
 use Rattle.solver_answer.specs.Answer.{case-of, each-given, kinds-status, numbers, satisfiable, solution, solution-status, whole}
@@ -18,8 +21,9 @@ use Rattle.solver_answer.specs.Lines.{Kind, kinds-of}
 use Rattle.solver_answer.specs.declared.Solution.{Solution}
 use Rattle.solver_answer.specs.declared.Solution.the-variants.{Assignment, Refused, Unsatisfiable}
 use Rattle.values_text.proofs.Sizes.{values-fit}
+use Rattle.values_text.specs.Values.{values-text}
 use Rattle.job_values.specs.Theorems.{ValuesShort}
-use Rattle.job_values.specs.Values.{answer-to, answer-values, by-answer, given, run-values}
+use Rattle.job_values.specs.Values.{answer-to, answer-values, by-answer, by-test, given, run-values, tested}
 use Rattle.job_values.proofs.Accepted.{file-formed}
 
 -- The number of an answer --------------------------------------------------------------------------------------------
@@ -56,12 +60,30 @@ answer-named env lits ends text room = go (well-formed env lits ends)
     go true = case-named _ (satisfiable (kinds-of text)) (kinds-named (env .variables) (kinds-of text) room)
     go false = omega arith
 
+-- that of the test at most 21
+tested-named : (r : JobRun) (bytes : List ℕ) → tested r bytes ≤ 21
+tested-named r bytes = go (readable (r .env) (r .lits) (r .ends)) (is-assignment (r .env .variables) bytes) (all-hold bytes (clauses-written (r .env) (r .lits) (r .ends)))
+  where
+    go : (a b c : Bool) → cond a (cond b (cond c 0 21) 16) 1 ≤ 21
+    go true true true = omega arith
+    go true true false = omega arith
+    go true false c = omega arith
+    go false b c = omega arith
+
 -- The text -----------------------------------------------------------------------------------------------------------
 
 module _ (r : JobRun) (text : List ℕ) (formed : well-formed (r .env) (length (r .lits)) (length (r .ends)) ≡ true) (field : r .field < 2 ^ 32) where
+  test-size : (bytes : List ℕ) → length (by-test r bytes) ≤ 1440
+  unfolding by-test
+  test-size bytes = go (eqb (tested r bytes) 0)
+    where
+      go : (t : Bool) → length (cond t (values-text (r .env) (r .lits) (r .ends) bytes) (refused (r .field) (tested r bytes))) ≤ 1440
+      go true = values-fit (r .env) (r .lits) (r .ends) bytes formed
+      go false = omega (arith, refused-size (r .field) (tested r bytes) field (omega (arith, tested-named r bytes)))
+
   case-size : (s : Solution) → Named s → length (by-answer s r text) ≤ 1440
   unfolding by-answer
-  case-size Assignment h = values-fit (r .env) (r .lits) (r .ends) (given r text) formed
+  case-size Assignment h = test-size (given r text)
   case-size Unsatisfiable h = omega arith
   case-size (Refused n) h = omega (arith, refused-size (r .field) n field (omega (arith, h)))
 

@@ -1,4 +1,4 @@
--- What the program prints for a job file and a solver's answer to its clauses (document 02, #103).
+-- What the program prints for a job file and a solver's answer to its clauses (document 02, #103 and #104).
 use Prim.Native.Nat.{_<_, _≤_, ℕ}
 use lib.Dec.{eqb}
 use lib.ListN.{length, replicate, take}
@@ -7,6 +7,7 @@ use mathlib.Core.List.{List, [], _∷_}
 use mathlib.Core.Path.{_≡_}
 use Rattle.dimacs.specs.Dimacs.{refused}
 use Rattle.encoder_env.specs.declared.EncoderEnv.{EncoderEnv}
+use Rattle.encoder_read.specs.Calls.{test-status}
 use Rattle.encoder_solution.specs.Answers.{read-answer}
 use Rattle.job_file.specs.Run.{JobRun, run-file}
 use Rattle.solver_answer.specs.Answer.{assignment}
@@ -30,9 +31,17 @@ given r text = assignment (r .env .variables) text
 abbrev pub answer-to : JobRun → List ℕ → Solution
 answer-to r text = read-answer (r .env) (length (r .lits)) (length (r .ends)) text (r .env .variables)
 
+-- the number of the test that the file's clauses are put to under these bytes (#104)
+abbrev pub tested : JobRun → List ℕ → ℕ
+tested r bytes = test-status (r .env) (r .lits) (r .ends) bytes
+
+-- the values where the test is passed, else `refused F N` with its number
+unfoldable pub by-test : JobRun → List ℕ → List ℕ
+by-test r bytes = cond (eqb (tested r bytes) 0) (values-text (r .env) (r .lits) (r .ends) bytes) (refused (r .field) (tested r bytes))
+
 -- the values, `none`, or `refused F N` with the answer's own number; F is then the number of fields
 unfoldable pub by-answer : Solution → JobRun → List ℕ → List ℕ
-by-answer Assignment r text = values-text (r .env) (r .lits) (r .ends) (given r text)
+by-answer Assignment r text = by-test r (given r text)
 by-answer Unsatisfiable r text = none-line
 by-answer (Refused n) r text = refused (r .field) n
 

@@ -4,7 +4,7 @@ ghost use mathlib.Core.Path.{_≡_};
 ghost use Prim.Native.Nat.{_≤_};
 ghost use lib.ListN.{length, take};
 ghost use Rattle.encoder_env.specs.WellFormed.{well-formed};
-ghost use Rattle.job_values.specs.Values.{Buffers, Stands, Told, accepted, answer-values, file-values, program-values};
+ghost use Rattle.job_values.specs.Values.{Buffers, Stands, Told, accepted, answer-values, by-test, file-values, program-values};
 use encoder_env::EncoderEnv;
 use solver_answer::Solution;
 
@@ -88,8 +88,27 @@ fn put_answer_values(
 {
     let solution = encoder_solution::read_answer(env, lits, ends, answer, assignment);
     match solution {
-        Solution::Assignment => values_text::put_values(out, env, lits, ends, assignment),
+        Solution::Assignment => put_tested_values(env, field, lits, ends, assignment, out),
         Solution::Unsatisfiable => text::put_bytes(out, 0, b"none\n"),
         Solution::Refused(number) => dimacs::print_refused(out, field, number),
     }
+}
+
+// The values under an assignment that satisfies every clause, else its refusal.
+fn put_tested_values(
+    env: EncoderEnv,
+    field: u32,
+    lits: &[u32],
+    ends: &[u32],
+    assignment: &[u8],
+    out: &mut [u8],
+) -> usize
+    requires { ⌜ (well-formed env (length (now lits)) (length (now ends)) ≡ true) × (1440 ≤ length (now out)) ⌝ }
+    ensures { λ r. ⌜ Stands (by-test (accepted field env (now (lits .entry)) (now (ends .entry))) (now (assignment .entry))) r (now (out .exit)) ⌝ }
+{
+    let tested = encoder_read::test_assignment(env, lits, ends, assignment);
+    if tested != 0 {
+        return dimacs::print_refused(out, field, tested);
+    }
+    values_text::put_values(out, env, lits, ends, assignment)
 }

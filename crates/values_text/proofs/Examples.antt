@@ -7,6 +7,7 @@ use Rattle.clause_set.specs.Bytes.{lit-holds}
 use Rattle.log_var.specs.Record.{pad, record-of}
 use Rattle.encoder_env.specs.declared.EncoderEnv.{EncoderEnv}
 use Rattle.encoder_env.specs.WellFormed.{all-below, bounds-hold, encoding-holds, eqz, is-spare, lez, record-holds, stores-within, well-formed}
+use Rattle.encoder_clauses.specs.Readable.{clauses-readable, readable}
 use Rattle.encoder_read.specs.Calls.{spare}
 use Rattle.text.specs.Decimal.{decimal, digits, integer}
 use Rattle.values_text.specs.Values.{lines-from, setting-line, settings-from, switch-line, switches-from, values-text}
@@ -32,7 +33,7 @@ pub assigned : values-text job [] (0 ∷ []) (1 ∷ 0 ∷ 0 ∷ 0 ∷ 0 ∷ 0 �
     ∷ 115 ∷ 101 ∷ 116 ∷ 116 ∷ 105 ∷ 110 ∷ 103 ∷ 32 ∷ 49 ∷ 32 ∷ 50 ∷ 10
     ∷ 115 ∷ 119 ∷ 105 ∷ 116 ∷ 99 ∷ 104 ∷ 32 ∷ 48 ∷ 32 ∷ 121 ∷ 101 ∷ 115 ∷ 10
     ∷ 115 ∷ 119 ∷ 105 ∷ 116 ∷ 99 ∷ 104 ∷ 32 ∷ 49 ∷ 32 ∷ 110 ∷ 111 ∷ 10 ∷ []
-unfolding values-text settings-from switches-from lines-from setting-line switch-line decimal digits integer lit-holds well-formed stores-within all-below record-holds is-spare encoding-holds bounds-hold lez eqz pad
+unfolding values-text settings-from switches-from lines-from setting-line switch-line decimal digits integer lit-holds readable clauses-readable well-formed stores-within all-below record-holds is-spare encoding-holds bounds-hold lez eqz pad
 assigned = refl
 
 -- each reading is refused: `setting 0 0`, `setting 1 0`, `switch 0 yes`, `switch 1 no`
@@ -41,5 +42,5 @@ pub too-short : values-text job [] (0 ∷ []) (1 ∷ [])
     ∷ 115 ∷ 101 ∷ 116 ∷ 116 ∷ 105 ∷ 110 ∷ 103 ∷ 32 ∷ 49 ∷ 32 ∷ 48 ∷ 10
     ∷ 115 ∷ 119 ∷ 105 ∷ 116 ∷ 99 ∷ 104 ∷ 32 ∷ 48 ∷ 32 ∷ 121 ∷ 101 ∷ 115 ∷ 10
     ∷ 115 ∷ 119 ∷ 105 ∷ 116 ∷ 99 ∷ 104 ∷ 32 ∷ 49 ∷ 32 ∷ 110 ∷ 111 ∷ 10 ∷ []
-unfolding values-text settings-from switches-from lines-from setting-line switch-line decimal digits integer lit-holds well-formed stores-within all-below record-holds is-spare encoding-holds bounds-hold lez eqz pad
+unfolding values-text settings-from switches-from lines-from setting-line switch-line decimal digits integer lit-holds readable clauses-readable well-formed stores-within all-below record-holds is-spare encoding-holds bounds-hold lez eqz pad
 too-short = refl

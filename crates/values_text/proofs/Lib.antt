@@ -1,4 +1,3 @@
 pub mod Examples
 pub mod Printing
-pub mod Read
 pub mod Sizes

@@ -45,7 +45,7 @@ module _ (env : EncoderEnv) (lits ends bytes : List ℕ) (k : Kept env (length l
   value-small i h = by (eqb status 0)
     where
       status : ℕ
-      status = status-of (read-checks env (length lits) (length ends) i bytes)
+      status = status-of (read-checks env lits ends i bytes)
 
       by : (t : Bool) → Small (cond t (value-read env lits ends i bytes) (refused status env lits ends) .value)
       by true = read-small bytes (encoding-at env i) (in-use env (length lits) (length ends) i k h)

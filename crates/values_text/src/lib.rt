@@ -2,11 +2,13 @@
 // place behind what it wrote.
 ghost use mathlib.Core.Path.{_≡_};
 ghost use lib.ListN.{getD};
+ghost use Rattle.encoder_read.specs.Calls.{test-status};
 ghost use Rattle.text.specs.Bytes.{text as text-of, write};
 ghost use Rattle.values_text.specs.Values.{setting-line, settings-from, switch-line, switches-from, values-text};
 use encoder_env::EncoderEnv;
 
-// The values of all settings and switches under an assignment. What passes the end of `out` is dropped, and the answer is then its length.
+// The values of all settings and switches under an assignment that was tested. What passes the end of `out` is dropped, and the answer is then
+// its length.
 pub fn put_values(
     out: &mut [u8],
     env: EncoderEnv,
@@ -14,6 +16,7 @@ pub fn put_values(
     ends: &[u32],
     assignment: &[u8],
 ) -> usize
+    requires { ⌜ test-status env (now lits) (now ends) (now assignment) ≡ 0 ⌝ }
     ensures { λ r. ⌜ text-of (now (out .exit)) r ≡ write (text-of (now (out .entry)) 0) (values-text env (now (lits .entry)) (now (ends .entry)) (now (assignment .entry))) ⌝ }
 {
     let to = put_settings(out, env, lits, ends, assignment, env.count);
@@ -29,12 +32,13 @@ fn put_settings(
     assignment: &[u8],
     count: u32,
 ) -> usize
+    requires { ⌜ test-status env (now lits) (now ends) (now assignment) ≡ 0 ⌝ }
     ensures { λ r. ⌜ text-of (now (out .exit)) r ≡ write (text-of (now (out .entry)) 0) (settings-from env (now (lits .entry)) (now (ends .entry)) (now (assignment .entry)) 0 count) ⌝ }
 {
     let mut to: usize = 0;
     let mut i: u32 = 0;
     while i < count {
-        let answer = encoder_read::get_int_value(env, lits, ends, i, assignment);
+        let answer = encoder_read::read_tested(env, lits, ends, i, assignment);
         to = put_setting_line(out, to, i, answer.value);
         i += 1;
     }

@@ -1,58 +1,34 @@
 -- `encoder_read::read_status` meets its contract.
 use borrow.Author.Needs.{needs}
-use borrow.Author.Tests.{eq-eqb, le-ltb, lt-ltb, ne-eqb, not-false, not-true}
-use mathlib.Core.Path.{_≡_, _∙_, sym}
+use borrow.Author.Tests.{le-ltb, lt-ltb, not-false, not-true}
 use mathlib.Core.Bool.{true}
-use lib.ListN.{length}
-use Rattle.encoder_env.specs.WellFormed.{well-formed}
+use mathlib.Core.Path.{_≡_, _∙_, sym}
+use Rattle.encoder_clauses.specs.Readable.{readable}
 use Rattle.encoder_read.proofs.read_status.Statement.{statement}
 use Rattle.encoder_read.proofs.read_status.Tie as tie
 
-well-formed-requires : tie.Need-well-formed-requires
-well-formed-requires c κs = search needs
+readable-requires : tie.Need-readable-requires
+readable-requires c κs = search needs
 
 returns : tie.Need-returns
-returns c = let w = c .before .well-formed in rw (← w .ensures, not-true (w .result) (c .if1 .taken))
+returns c = let r = c .before .readable in rw (← r .ensures, not-true (r .result) (c .if1 .taken))
 
--- the job is well formed
-held : (c : tie.Else1) → let a = c .before .before .before .args in well-formed (a .env) (a .lits) (a .ends) ≡ true
-held c = sym (c .before .well-formed .ensures) ∙ not-false _ (c .if1 .left)
+-- the clauses can be read
+held : (c : tie.Else1) → let a = c .before .before .before .before .before .args in readable (a .env) (a .lits .now) (a .ends .now) ≡ true
+held c = sym (c .before .readable .ensures) ∙ not-false _ (c .if1 .left)
 
 returns-2 : tie.Need-returns-2
-returns-2 c = let a = c .before .before .before .before .before .args in rw (held (c .before .before), le-ltb (a .x) (a .env .count) (c .if2 .taken))
+returns-2 c =
+    let a = c .before .before .before .before .before .before .before .args in
+    rw (held (c .before .before), le-ltb (a .x) (a .env .count) (c .if2 .taken))
 
-cast-if3 : tie.Need-cast-if3
-cast-if3 c = search needs
+bytes-status-requires : tie.Need-bytes-status-requires
+bytes-status-requires c κs = held (c .before .before)
 
 returns-3 : tie.Need-returns-3
 returns-3 c =
-    let a = c .before .before .before .before .before .before .before .args in
-    rw (held (c .before .before .before .before), lt-ltb (a .x) (a .env .count) (c .before .before .if2 .left), ne-eqb (length (a .assignment .now)) (a .env .variables) (c .if3 .taken))
-
-all-bits-requires : tie.Need-all-bits-requires
-all-bits-requires c κs = search needs
-
-returns-4 : tie.Need-returns-4
-returns-4 c =
-    let a = c .before .before .before .before .before .before .before .before .before .args in
-    let b = c .before .all-bits in
-    rw (held (c .before .before .before .before .before .before), lt-ltb (a .x) (a .env .count) (c .before .before .before .before .if2 .left), eq-eqb (length (a .assignment .now)) (a .env .variables) (c .before .before .if3 .left), ← b .ensures, not-true (b .result) (c .if4 .taken))
-
-returns-5 : tie.Need-returns-5
-returns-5 c =
-    let a = c .before .before .before .before .before .before .before .before .before .args in
-    let b = c .before .all-bits in
-    rw (held (c .before .before .before .before .before .before), lt-ltb (a .x) (a .env .count) (c .before .before .before .before .if2 .left), eq-eqb (length (a .assignment .now)) (a .env .variables) (c .before .before .if3 .left), ← b .ensures, not-false (b .result) (c .if4 .left))
+    let a = c .before .before .before .before .before .before .before .before .args in
+    rw (held (c .before .before .before), lt-ltb (a .x) (a .env .count) (c .before .if2 .left)) (c .bytes-status .ensures)
 
 pub read-status-spec : {M : Type 1} → statement M
-read-status-spec =
-    tie.close
-    (tie.spec
-    well-formed-requires
-    returns
-    returns-2
-    cast-if3
-    returns-3
-    all-bits-requires
-    returns-4
-    returns-5)
+read-status-spec = tie.close (tie.spec readable-requires returns returns-2 bytes-status-requires returns-3)

@@ -10,8 +10,8 @@ read-answer-requires c κs = search needs
 enum-told : tie.Need-enum-told
 enum-told c = search needs
 
-put-values-requires : tie.Need-put-values-requires
-put-values-requires c κs = search needs
+put-tested-values-requires : tie.Need-put-tested-values-requires
+put-tested-values-requires c κs = search needs
 
 enum-told-2 : tie.Need-enum-told-2
 enum-told-2 c = search needs
@@ -38,8 +38,8 @@ returns : tie.Need-returns
 returns c =
     let a = c .before .before .before .before .before .before .before .before .before .before .before .before .before .before .before .before .args in
     let h = c .before .before .before .before .before .before .before .before .before .before .before .before .before .before .before .before .pre in
-    let f = c .before .before .put-values in
-    assigned (a .env) (a .field) (a .lits .now) (a .ends .now) (a .answer .now) (a .assignment .now) (c .before .before .before .before .before .before .before .before .before .read-answer .ensures) (h .1) (h .0) (search needs) (a .out .now) (f .last .0) (f .result) (h .2) (search needs) (c .before .before .before .before .before .enum-told .given .1) (f .ensures)
+    let f = c .before .before .put-tested-values in
+    assigned (a .env) (a .field) (a .lits .now) (a .ends .now) (a .answer .now) (a .assignment .now) (c .before .before .before .before .before .before .before .before .before .read-answer .ensures) (h .1) (h .0) (search needs) (a .out .now) (f .last .1 .1 .1 .1 .1 .0) (f .result) (h .2) (search needs) (c .before .before .before .before .before .enum-told .given .1) (f .ensures)
 
 same-length-3 : tie.Need-same-length-3
 same-length-3 c = search needs
@@ -74,7 +74,7 @@ put-answer-values-spec =
     (tie.spec
     read-answer-requires
     enum-told
-    put-values-requires
+    put-tested-values-requires
     enum-told-2
     slice-aggregate-put-bytes
     put-bytes-requires

@@ -24,8 +24,8 @@ abbrev μ-loop : tie.MeasureT-loop
 loop-holds : tie.Need-loop-holds Inv-loop μ-loop
 loop-holds c = (refl, zero-le, rw sub-zero)
 
-get-int-value-requires : tie.Need-get-int-value-requires Inv-loop μ-loop
-get-int-value-requires c κs = search needs
+read-tested-requires : tie.Need-read-tested-requires Inv-loop μ-loop
+read-tested-requires c κs = search needs
 
 put-setting-line-requires : tie.Need-put-setting-line-requires Inv-loop μ-loop
 put-setting-line-requires c κs = search needs
@@ -43,7 +43,7 @@ loop-again c =
     let l = c .before .before .before .before .before .before .before .loop in
     let a = c .before .before .before .before .before .before .before .before .before .before .before .before .args in
     let t = text (l .out) (l .to) in
-    let v = c .before .before .before .before .before .get-int-value in
+    let v = c .before .before .before .before .before .read-tested in
     let e = toZ-ofZ w32 (v .result .value) (record { sfits = c .before .before .before .struct-told .given .1 .1 .0 .1 }) ∙ v .ensures .value in
     (search needs, search needs, lines-turn (setting-at (a .env) (a .lits .now) (a .ends .now) (a .assignment .now)) (l .i) (a .count) t (c .before .before .before .before .before .before .loop-test .taken) (c .before .before .put-setting-line .ensures ∙ ap (λ z. write t (setting-line (l .i) z)) e) (l .inv .2))
 
@@ -64,7 +64,7 @@ put-settings-spec =
     Inv-loop
     μ-loop
     loop-holds
-    get-int-value-requires
+    read-tested-requires
     put-setting-line-requires
     add-i
     loop-less
