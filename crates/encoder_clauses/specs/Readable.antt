@@ -16,6 +16,7 @@ clauses-written env lits ends = clauses-of (stores lits ends (env .literals) (en
 
 -- Tests --------------------------------------------------------------------------------------------------------------
 
+-- every literal is below a limit
 abbrev pub lits-below : ℕ → List ℕ → Bool
 lits-below limit [] = true
 lits-below limit (l ∷ ls) = ltb l limit && lits-below limit ls
@@ -45,6 +46,7 @@ readable env lits ends = well-formed env (length lits) (length ends) && clauses-
 
 -- As inequalities ----------------------------------------------------------------------------------------------------
 
+-- from the leading end to that of the last clause each is at most the next and none passes the literal count; the clauses are over the job's variables
 pub record Readable (env : EncoderEnv) (lits ends : List ℕ) : Type 0 where
   pub rising : (k : ℕ) → k < env .clauses → getD ends k 0 ≤ getD ends (k + 1) 0
   pub inside : (k : ℕ) → k ≤ env .clauses → getD ends k 0 ≤ env .literals

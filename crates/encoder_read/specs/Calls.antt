@@ -70,7 +70,7 @@ abbrev pub bytes-checks : EncoderEnv → List ℕ → List ℕ → List ℕ → 
 bytes-checks env lits ends assignment =
     check (is-assignment (env .variables) assignment) 16 ∷ check (all-hold assignment (clauses-written env lits ends)) 21 ∷ []
 
--- 1 job and clauses; 8 a setting unknown; then the assignment
+-- 1 the job is not well formed, or its clauses cannot be read; 8 a setting unknown; then the assignment
 abbrev pub read-checks : EncoderEnv → List ℕ → List ℕ → ℕ → List ℕ → List Check
 read-checks env lits ends x assignment = check (readable env lits ends) 1 ∷ check (ltb x (env .count)) 8 ∷ bytes-checks env lits ends assignment
 
