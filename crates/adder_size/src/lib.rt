@@ -1,4 +1,6 @@
 // The size of the adder of Ne, Ge and products, from how many literals its columns have: each column is walked for its counts.
+#![tactic(auto)]
+
 ghost use Rattle.std.specs.Prelude.{◌≡◌, false, ◌+◌, ◌≤◌, ◌<◌};
 ghost use Rattle.log_encoding.specs.AdderSize.{input_shapes, reached, reached_past, too_tall};
 ghost use Rattle.adder_size.specs.Counted.{ColumnCounted, Counted, CountedFrom, InBounds};
@@ -7,7 +9,7 @@ use clause_set::Counts;
 use column_walk::walk_column;
 
 // The columns so far: bits of the sum, the carries' variables, those of the last carry, clauses and literal entries.
-#[derive(Drop)]
+#[derive(Clone, Copy)]
 pub struct AdderSize {
     pub bits: u32,
     pub carries: u32,

@@ -1,5 +1,7 @@
 // Signed numbers at the border of the encoder: a setting's offset, codes and values, the two parts of a number, and bit lengths. Inside,
 // numbers are unsigned.
+#![tactic(auto)]
+
 ghost use Rattle.std.specs.Prelude.{◌≡◌, ◌+◌, ◌<◌, ◌≤ℤ◌};
 ghost use Rattle.arithmetic.specs.Bits.{bit_length};
 ghost use Rattle.arithmetic.specs.Integers.{up, down};

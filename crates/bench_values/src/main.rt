@@ -1,6 +1,8 @@
 // Prints `STATUS HEIGHT` for each call of the script on standard input (crate `script` says how it is written): the number answered, and
 // the greatest height of a column reached, 0 where there is none or the call is refused before 13 is tested. The words are `open`, `range`,
 // `list`, `binary`, `linear`, `mul`, and `stores` with the lengths that both stores have here. Any other line ends the run.
+#![tactic(auto)]
+
 mod heights;
 
 use encoder_env::EncoderEnv;
@@ -33,7 +35,7 @@ fn show(status: u32, height: u32) -> bool {
 }
 
 // The job after a line, whether the line could be read, and whether its answer could be written.
-#[derive(Drop)]
+#[derive(Clone, Copy)]
 struct Answered {
     next: Next,
     written: bool,

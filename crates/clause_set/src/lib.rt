@@ -1,5 +1,7 @@
 // The two lent stores, after `ClauseSet` of encoder/mod.rs: literals, and clause ends with a leading 0. Adding a clause always counts
 // it and stores only what lies inside a store, so that a call that is lent nothing only counts.
+#![tactic(auto)]
+
 ghost use Rattle.std.specs.Prelude.{◌≡◌, [], ◌∷◌, ◌++◌, ◌+◌, ◌≤◌, ◌<◌, get_or, length, set};
 ghost use Rattle.clause_set.specs.Bytes.{clause_holds, lit_holds};
 ghost use Rattle.clause_set.specs.Clause.{clause_lits};
@@ -8,14 +10,14 @@ ghost use Rattle.clause_set.specs.Stores.{Fits, Within, add_clauses, after, part
 use sat::Lit;
 
 // How much of the two stores is in use.
-#[derive(Drop)]
+#[derive(Clone, Copy)]
 pub struct Counts {
     pub clauses: usize,
     pub lits: usize,
 }
 
 // A clause that is put together literal by literal.
-#[derive(Drop)]
+#[derive(Clone, Copy)]
 pub struct Clause {
     pub lits: [Lit; 32],
     pub len: usize,

@@ -1,4 +1,6 @@
 // Prints the clauses of the job file on standard input as DIMACS, or `refused F N`. Where reading fails, nothing is printed.
+#![tactic(auto)]
+
 use libc::STDOUT_FILENO;
 use streams::Input;
 

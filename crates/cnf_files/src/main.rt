@@ -1,4 +1,6 @@
 // Prints job after job as `cnf` does: standard input holds job files, each behind its length in two bytes, the high byte first.
+#![tactic(auto)]
+
 ghost use Rattle.std.specs.Prelude.{◌<◌, ◌≤◌, length};
 
 use libc::STDOUT_FILENO;

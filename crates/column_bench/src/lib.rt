@@ -1,4 +1,6 @@
 // The writer of one column's clauses, for the benchmark, which links it beside the Rust.
+#![tactic(auto)]
+
 ghost use Rattle.std.specs.Prelude.{◌≡◌, ◌+◌, ◌≤◌};
 ghost use Rattle.column_bench.specs.BenchColumn.{bench_column, written};
 

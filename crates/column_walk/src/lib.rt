@@ -1,4 +1,6 @@
 // How many clauses and literal entries one column has, by walking its clauses: its writer is lent no store, so it only counts.
+#![tactic(auto)]
+
 ghost use Rattle.std.specs.Prelude.{◌≡◌, ◌+◌, ◌/◌, ◌≤◌};
 ghost use Rattle.log_encoding.specs.AdderSize.{column_count, eq_column_count};
 ghost use Rattle.column_walk.specs.Walked.{Walked, any_column};

@@ -5,6 +5,8 @@
 //   eq_adder VARS X Y WIDTH (COEF N LIT..)..                    columns that with X have to add up to Y; X or Y is 0
 // It is answered by a line: `ge CLAUSES`, `adder VARS BITS.. : CLAUSES`, `eq_adder VARS CLAUSES`, `tall` or `bad line`. CLAUSES is how
 // many clauses and literals there are, and then each clause behind a bar or, above 400 literals, `sum` and a check sum.
+#![tactic(auto)]
+
 mod print; // print.rt: what is printed
 
 ghost use Rattle.std.specs.Prelude.{◌≡◌, ◌+◌, ◌≤◌, ◌<◌, length, replicate};
@@ -56,7 +58,7 @@ fn nothing() -> Counts
 }
 
 // A term, if it is within bounds.
-#[derive(Drop)]
+#[derive(Clone, Copy)]
 struct TermInput {
     term: LinearInfo,
     good: bool,
@@ -100,7 +102,7 @@ fn read_term(nums: &[i64], at: usize, left: u32) -> TermInput
 }
 
 // The terms of a line, what the last can lose, and whether the line is within bounds.
-#[derive(Drop)]
+#[derive(Clone, Copy)]
 struct Terms {
     terms: [LinearInfo; 15],
     len: usize,
@@ -163,7 +165,7 @@ fn run_ge(nums: &[i64], lits: &mut [u32], ends: &mut [u32]) -> bool {
 // Columns ----------------------------------------------------------------------------------------------------------------
 
 // Literals and a coefficient by which they are gathered, and where the next begin, if they are within bounds.
-#[derive(Drop)]
+#[derive(Clone, Copy)]
 struct Row {
     lits: [Lit; 32],
     len: usize,

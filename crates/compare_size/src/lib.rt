@@ -1,4 +1,6 @@
 // The size of Ne and Ge from the sizes of their two sums: no clause is walked.
+#![tactic(auto)]
+
 ghost use Rattle.std.specs.Prelude.{◌≡◌, false, true, min, ◌≤◌};
 ghost use Rattle.compare_size.specs.Compared.{Compared, SumReady, last_counts};
 

@@ -1,5 +1,7 @@
 // The print of a job's clauses as DIMACS, and of a refusal, into a lent slice. Each `put_..` answers the
 // place behind what it wrote.
+#![tactic(auto)]
+
 ghost use Rattle.std.specs.Prelude.{◌≡◌};
 ghost use Rattle.text.specs.Bytes.{text as text_of, write};
 ghost use Rattle.clause_set.specs.Stores.{clause_at, clauses_from};

@@ -1,5 +1,7 @@
 // The public calls, after encoder/mod.rs, the two of a solver's answer (#103) and the figures of a sum and a product (#105). None has a
 // `requires`: what does not fit is refused by a number.
+#![tactic(auto)]
+
 pub use encoder_answer::Answer;
 pub use encoder_env::EncoderEnv;
 pub use encoder_figures::{Figures, linear_figures, mul_figures};

@@ -1,4 +1,6 @@
 // What every public call answers, and what those that add have in common: the checks of space and the job after it.
+#![tactic(auto)]
+
 ghost use Rattle.std.specs.Prelude.{◌≡◌, pos, ◌^◌, ◌<◌};
 ghost use Rattle.encoder_answer.specs.Outcome.{status_of};
 ghost use Rattle.encoder_answer.specs.Adding.{counts_of, job_with, space_checks};
@@ -8,7 +10,7 @@ use encoder_env::EncoderEnv;
 use log_linear::RuleCounts;
 
 // The number answered, the job and the value of a reading.
-#[derive(Drop)]
+#[derive(Clone, Copy)]
 pub struct Answer {
     pub status: u32,
     pub env: EncoderEnv,

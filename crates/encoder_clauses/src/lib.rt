@@ -1,4 +1,6 @@
 // The clauses written of a job: whether they can be read (#104), and whether an assignment satisfies all of them.
+#![tactic(auto)]
+
 ghost use Rattle.std.specs.Prelude.{true, ◌≡◌, length};
 ghost use Rattle.clause_set.specs.Bytes.{all_hold};
 ghost use Rattle.encoder_env.specs.WellFormed.{well_formed};

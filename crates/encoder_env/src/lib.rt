@@ -1,4 +1,6 @@
 // The job, after `EncoderEnv` of encoder/mod.rs, and whether it is well formed.
+#![tactic(auto)]
+
 ghost use Rattle.std.specs.Prelude.{◌≡◌, ◌≤◌};
 ghost use Rattle.encoder_env.specs.WellFormed.{all_below, bounds_hold, encoding_holds, in_range, is_spare, lits_fit, record_holds, stores_within, well_formed};
 
@@ -7,7 +9,7 @@ use log_var::LogEncoding;
 use sat::Lit;
 
 // Counts of switches, variables, clauses, literals and settings, and the settings' records.
-#[derive(Drop)]
+#[derive(Clone, Copy)]
 pub struct EncoderEnv {
     pub switches: u32,
     pub variables: u32,

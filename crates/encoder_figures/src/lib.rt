@@ -1,4 +1,6 @@
 // How much space a rule would take: the figures of a sum or a product for a given job, with no store lent (document 02, #105).
+#![tactic(auto)]
+
 ghost use Rattle.std.specs.Prelude.{◌≡◌, ◌≤◌};
 ghost use Rattle.encoder_answer.specs.Outcome.{status_of};
 ghost use Rattle.encoder_figures.specs.Figures.{linear_figures, mul_figures, product_arguments, size_figures};
@@ -10,7 +12,7 @@ use sum_size::turned_size;
 use terms_size::RuleSize;
 
 // The number answered, and what the call would add: new variables, clauses and literal entries. A refusal has its number and no figures.
-#[derive(Drop)]
+#[derive(Clone, Copy)]
 pub struct Figures {
     pub status: u32,
     pub variables: u32,

@@ -1,4 +1,6 @@
 // The call for products, after `encode_mul_log` of encoder/log.rs.
+#![tactic(auto)]
+
 ghost use Rattle.std.specs.Prelude.{◌≡◌};
 ghost use Rattle.encoder_answer.specs.Outcome.{Answers, status_of};
 ghost use Rattle.encoder_mul.specs.Ready.{MulReady};

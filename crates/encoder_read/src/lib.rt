@@ -1,4 +1,6 @@
 // The opening of a job, the reading of a setting and the handing back of a clause.
+#![tactic(auto)]
+
 ghost use Rattle.std.specs.Prelude.{true, ◌≡◌, ◌+◌, ◌<◌};
 ghost use Rattle.encoder_answer.specs.Outcome.{Answers, status_of};
 ghost use Rattle.encoder_clauses.specs.Readable.{readable};

@@ -1,4 +1,6 @@
 // A solver's answer read as an assignment of the job's variables, and an assignment printed as a solver's answer.
+#![tactic(auto)]
+
 ghost use Rattle.std.specs.Prelude.{◌≡◌, length};
 ghost use Rattle.encoder_answer.specs.Outcome.{status_of};
 ghost use Rattle.encoder_solution.specs.Answers.{PrintsAnswer, ReadsAnswer, assignment_checks};

@@ -1,4 +1,6 @@
 // The size of the adder of Eq from its columns' counts of literals: the clauses of each column are walked, none is written.
+#![tactic(auto)]
+
 ghost use Rattle.std.specs.Prelude.{◌≡◌, false, [], take, ◌+◌, ◌-◌, ◌*◌, ◌≤◌};
 ghost use Rattle.log_encoding.specs.AdderSize.{eq_column_count, eq_reached, too_tall};
 ghost use Rattle.eq_size.specs.Sized.{EqSized};
@@ -10,7 +12,7 @@ use log_linear::RuleCounts;
 
 // The columns counted so far: x and y of the rest, the last carry's literals, all carries' variables;
 // the ordering clauses are sent at once, the columns' clauses are returned at the end.
-#[derive(Drop)]
+#[derive(Clone, Copy)]
 struct CountedColumns {
     x: u32,
     y: u32,

@@ -6,7 +6,7 @@ ghost use Rattle.job_fields.specs.Places.{field_at, number_at};
 use crate::numbers;
 
 // What stands at a place.
-#[derive(Drop)]
+#[derive(Clone, Copy)]
 pub enum FieldAt {
     Contents { tag: u8, begin: usize, end: usize },
     End,

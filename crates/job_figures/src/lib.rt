@@ -1,4 +1,6 @@
 // The figures of one more field behind a job file: what a sum or a product would add (document 02, #105).
+#![tactic(auto)]
+
 mod rules;
 
 ghost use Rattle.std.specs.Prelude.{◌≡◌};

@@ -1,4 +1,6 @@
 // The run of a job file: field after field, each one call; the first refusal ends it.
+#![tactic(auto)]
+
 mod calls;
 
 ghost use Rattle.std.specs.Prelude.{◌≡◌, pos};
@@ -13,7 +15,7 @@ use job_fields::fields;
 use job_fields::fields::FieldAt;
 
 // The field refused and its number, or the number of fields and 0; the job that the accepted fields left.
-#[derive(Drop)]
+#[derive(Clone, Copy)]
 pub struct JobAnswer {
     pub field: u32,
     pub status: u32,

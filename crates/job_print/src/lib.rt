@@ -1,4 +1,6 @@
 // The text of a job file: the print of its clauses, or its refusal.
+#![tactic(auto)]
+
 ghost use Rattle.std.specs.Prelude.{◌≡◌, ◌≤◌, length, take};
 ghost use Rattle.job_print.specs.Print.{FilePrinted, program_print};
 

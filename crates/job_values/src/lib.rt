@@ -1,4 +1,6 @@
 // The values that a solver's answer gives to the settings and switches of a job file, as text.
+#![tactic(auto)]
+
 ghost use Rattle.std.specs.Prelude.{true, ◌≡◌, ◌≤◌, length, take};
 ghost use Rattle.encoder_env.specs.WellFormed.{well_formed};
 ghost use Rattle.job_values.specs.Values.{Buffers, Stands, Told, accepted, answer_values, by_test, file_values, program_values};
@@ -7,7 +9,7 @@ use encoder_env::EncoderEnv;
 use solver_answer::Solution;
 
 // What a print comes to: how many bytes of text stand at the start of the slice, or that the answer is longer than 1,048,576 bytes.
-#[derive(Drop)]
+#[derive(Clone, Copy)]
 pub enum Values {
     Text(usize),
     TooLong,

@@ -3,14 +3,14 @@ ghost use Rattle.std.specs.Prelude.{◌≡◌, pos};
 ghost use Rattle.lines.specs.Fitting.{Listed, is_i32, is_u8, itself, signed_at, signed_of, unsigned_at, unsigned_of};
 
 // A number as a u32, if it fits.
-#[derive(Drop)]
+#[derive(Clone, Copy)]
 pub enum Unsigned {
     Value(u32),
     Outside,
 }
 
 // A number as an i32, if it fits.
-#[derive(Drop)]
+#[derive(Clone, Copy)]
 pub enum Signed {
     Value(i32),
     Outside,

@@ -1,4 +1,6 @@
 // A reader of scripts that is handed its bytes in parts of any length. A line is a word and decimal integers, each behind one space.
+#![tactic(auto)]
+
 mod fitting;
 
 ghost use Rattle.std.specs.Prelude.{◌≡◌, true, false, ◌≤◌, length};
@@ -9,7 +11,7 @@ ghost use Rattle.lines.specs.Lines.{FedBy, Within, is_empty, is_word, line_more,
 pub use fitting::{Signed, Unsigned, byte_list, signed_at, signed_list, unsigned_at};
 
 // What the bytes of a token say so far.
-#[derive(Drop)]
+#[derive(Clone, Copy)]
 pub enum Numeral {
     Empty,
     // a minus alone
@@ -23,7 +25,7 @@ pub enum Numeral {
 }
 
 // The integer that a token is, if it is one from -2147483648 to 4294967295.
-#[derive(Drop)]
+#[derive(Clone, Copy)]
 pub enum Integer {
     Value(i64),
     Outside,
@@ -123,7 +125,7 @@ fn numeral_integer(n: Numeral) -> Integer
 }
 
 // The bytes of a line's word. Of more than 8 the first 8 are kept, and the length is 9.
-#[derive(Drop)]
+#[derive(Clone, Copy)]
 pub struct Word {
     pub bytes: [u8; 8],
     pub len: usize,
@@ -167,7 +169,7 @@ pub fn is_word(w: Word, word: &[u8]) -> bool
 }
 
 // How many integers of a line are kept, whether all could be read and kept, and the token that follows them.
-#[derive(Drop)]
+#[derive(Clone, Copy)]
 pub struct Numbers {
     pub count: usize,
     pub good: bool,
@@ -234,7 +236,7 @@ fn number_more(nums: &mut [i64], n: Numbers, b: u8) -> Numbers
 }
 
 // A line so far.
-#[derive(Drop)]
+#[derive(Clone, Copy)]
 pub struct Line {
     pub word: Word,
     // whether a space stands behind the word
@@ -325,7 +327,7 @@ pub fn line_whole(nums: &mut [i64], line: Line) -> Line
 }
 
 // A line so far.
-#[derive(Drop)]
+#[derive(Clone, Copy)]
 pub struct Fed {
     pub line: Line,
     // the place of the line feed that ends it, or of the end of the bytes at hand

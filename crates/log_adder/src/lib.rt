@@ -1,4 +1,6 @@
 // Columns and the adder of Ne, Ge and products, after `log_encoding_adder` of log.rs. A call that is lent no entries only counts.
+#![tactic(auto)]
+
 ghost use Rattle.std.specs.Prelude.{◌≡◌, max, ◌+◌, ◌*◌, ◌^◌, ◌≤◌, ◌<◌, take, false};
 ghost use Rattle.clause_set.specs.Stores.{add_clauses, after, stores};
 ghost use Rattle.mixed.specs.Infos.{AllSmall};
@@ -11,14 +13,14 @@ use mixed::LinearInfo;
 use sat::{Lit, Var};
 
 // Consecutive variables.
-#[derive(Drop)]
+#[derive(Clone, Copy)]
 pub struct VarRange {
     pub first: Var,
     pub count: u32,
 }
 
 // A column: own literals, the carry that comes in, the constant bit, the carry that goes out, the result.
-#[derive(Drop)]
+#[derive(Clone, Copy)]
 pub struct ColumnInfo {
     pub own: [Lit; 12],
     pub height: u32,
@@ -111,7 +113,7 @@ pub fn push_column(lits: &mut [u32], ends: &mut [u32], c: ColumnInfo, base: u32)
 }
 
 // What a column has of its own: literals and how many, the constant bit, and its result, if one is given.
-#[derive(Drop)]
+#[derive(Clone, Copy)]
 pub struct ColumnInput {
     pub own: [Lit; 12],
     pub height: u32,
@@ -121,7 +123,7 @@ pub struct ColumnInput {
 }
 
 // The adder's state: the bits' literals so far, the variables counted, the carry, the counts.
-#[derive(Drop)]
+#[derive(Clone, Copy)]
 pub struct AdderState {
     pub bits: [Lit; 32],
     pub len: usize,
@@ -131,7 +133,7 @@ pub struct AdderState {
 }
 
 // How many columns, the constant, and how many results are given.
-#[derive(Drop)]
+#[derive(Clone, Copy)]
 pub struct AdderInput {
     pub width: usize,
     pub constant: u32,

@@ -1,4 +1,6 @@
 // The adder of Eq, after `log_encoding_adder2` of log.rs. A call that is lent no entries only counts.
+#![tactic(auto)]
+
 ghost use Rattle.std.specs.Prelude.{◌≡◌, false, [], take, ◌+◌, ◌-◌, ◌*◌, ◌/◌, ◌^◌, ◌≤◌, ◌<◌};
 ghost use Rattle.sat.specs.Fresh.{fresh};
 ghost use Rattle.sat.specs.LitArray.{first_lits};
@@ -15,14 +17,14 @@ use log_adder::{ColumnInfo, VarRange, higher};
 use sat::{Lit, Var};
 
 // A column answers with its carry, first variable and count, or with a dead end.
-#[derive(Drop)]
+#[derive(Clone, Copy)]
 pub enum Column {
     Carry(Var, u32),
     Dead,
 }
 
 // How many columns; with x they are to add up to y; the variables counted so far.
-#[derive(Drop)]
+#[derive(Clone, Copy)]
 pub struct EqInput {
     pub width: usize,
     pub x: u32,
@@ -31,7 +33,7 @@ pub struct EqInput {
 }
 
 // The state between two columns.
-#[derive(Drop)]
+#[derive(Clone, Copy)]
 pub struct EqState {
     pub x: u32,
     pub y: u32,
@@ -41,7 +43,7 @@ pub struct EqState {
 }
 
 // After the first pass: the variables counted, the counts, and the carry into the last column or the dead end before it.
-#[derive(Drop)]
+#[derive(Clone, Copy)]
 pub struct EqCarries {
     pub vars: u32,
     pub used: Counts,
@@ -49,7 +51,7 @@ pub struct EqCarries {
 }
 
 // After both passes: the variables counted, the counts.
-#[derive(Drop)]
+#[derive(Clone, Copy)]
 pub struct EqCounts {
     pub vars: u32,
     pub used: Counts,

@@ -1,4 +1,6 @@
 // How many literals each column gets, from bit counts and coefficients alone: of the terms of a sum, and of the rows of a product.
+#![tactic(auto)]
+
 ghost use Rattle.std.specs.Prelude.{◌≡◌, [], ◌∷◌, ◌+◌, ◌-◌, ◌*◌, ◌≤◌, ◌<◌};
 ghost use Rattle.arithmetic.specs.Bits.{shl};
 ghost use Rattle.log_encoding.specs.AdderSize.{push_counts, push_scaled_counts};
@@ -10,7 +12,7 @@ ghost use Rattle.log_counts.specs.Growth.{Counted, Grown};
 use log_gather::larger;
 
 // The numbers of a term.
-#[derive(Drop)]
+#[derive(Clone, Copy)]
 pub struct TermShape {
     pub negative: bool,
     pub coef: u32,
@@ -18,7 +20,7 @@ pub struct TermShape {
 }
 
 // How many literals each column has, and how many columns there are.
-#[derive(Drop)]
+#[derive(Clone, Copy)]
 pub struct ColumnCounts {
     pub counts: [u32; 32],
     pub width: usize,

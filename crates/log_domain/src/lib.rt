@@ -1,5 +1,7 @@
 // The clauses that keep a code within its bounds and out of a list's gaps, after `encode_var_log` of log.rs. Adding a clause always counts it
 // and stores only what lies inside a store, so that a call that is lent nothing only counts.
+#![tactic(auto)]
+
 ghost use Rattle.std.specs.Prelude.{◌≡◌, cond, [], ◌∷◌, ◌+◌, ◌-◌, ◌^◌, ◌<◌, ◌<ℤ◌, ◌≤ℤ◌};
 ghost use Rattle.arithmetic.specs.Integers.{down, up};
 ghost use Rattle.arithmetic.specs.Offset.{code};

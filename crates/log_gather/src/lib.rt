@@ -1,4 +1,6 @@
 // Literals gathered into columns by weight. Counts run past 12 without storing: only a column that is reached is refused.
+#![tactic(auto)]
+
 ghost use Rattle.std.specs.Prelude.{◌≡◌, cond, [], map, eqb, replicate, max, ◌+◌, ◌*◌, ◌%◌, ◌^◌, ◌≤◌, ◌<◌};
 ghost use Rattle.arithmetic.specs.Bits.{shl};
 ghost use Rattle.sat.specs.Lit.{neg};

@@ -1,4 +1,6 @@
 // The comparison of two sums' bits, after `encode_linear_log_from_encodings` of log.rs. A call that is lent no entries only counts.
+#![tactic(auto)]
+
 ghost use Rattle.std.specs.Prelude.{◌≡◌, [], ◌∷◌, ◌++◌, min, ◌+◌, ◌-◌, ◌^◌, ◌≤◌, ◌<◌, drop, length, take};
 ghost use Rattle.clause_set.specs.Clause.{clause_lits};
 ghost use Rattle.clause_set.specs.Stores.{after};
@@ -11,21 +13,21 @@ use clause_set::{Clause, Counts};
 use sat::{Lit, Var};
 
 // The literals of a sum's bits, the lowest first, and how many.
-#[derive(Drop)]
+#[derive(Clone, Copy)]
 pub struct Bits {
     pub lits: [Lit; 32],
     pub len: usize,
 }
 
 // The counts of variables and of the stores after a rule.
-#[derive(Drop)]
+#[derive(Clone, Copy)]
 pub struct RuleCounts {
     pub vars: u32,
     pub used: Counts,
 }
 
 // The Rust's `Option<Lit>` in Ge: none yet, or the literal of the bits passed.
-#[derive(Drop)]
+#[derive(Clone, Copy)]
 pub enum SubLit {
     None,
     Some(Lit),

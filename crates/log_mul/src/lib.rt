@@ -1,5 +1,7 @@
 // The multiplier, after `log_encoding_multiplier` of log.rs, and the product of numbers without offsets. A call that is lent no entries
 // only counts.
+#![tactic(auto)]
+
 ghost use Rattle.std.specs.Prelude.{◌≡◌, [], ◌+◌, ◌*◌, ◌^◌, ◌≤◌, ◌<◌, length, replicate};
 ghost use Rattle.sat.specs.LitArray.{first_lits};
 ghost use Rattle.sat.specs.Fresh.{fresh};
@@ -20,7 +22,7 @@ use log_linear::{Bits, RuleCounts, add_three, add_two, none_of};
 use sat::{Lit, Var};
 
 // The bits of a product, and the counts of variables and of the stores after its clauses.
-#[derive(Drop)]
+#[derive(Clone, Copy)]
 pub struct Multiplied {
     pub bits: Bits,
     pub vars: u32,
@@ -28,14 +30,14 @@ pub struct Multiplied {
 }
 
 // The literals of a product's bits, and the variables counted after it.
-#[derive(Drop)]
+#[derive(Clone, Copy)]
 pub struct ProductBits {
     pub bits: Bits,
     pub vars: u32,
 }
 
 // The literals of a sum's bits so far, the variables counted, and how many the carry has.
-#[derive(Drop)]
+#[derive(Clone, Copy)]
 pub struct BitsState {
     pub lits: [Lit; 32],
     pub len: usize,

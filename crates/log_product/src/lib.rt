@@ -1,5 +1,7 @@
 // Products, after `encode_mul_log` of log.rs: with offsets, Eq over the multiplier's bits and the numbers themselves. A call that is lent
 // no entries only counts.
+#![tactic(auto)]
+
 ghost use Rattle.std.specs.Prelude.{◌≡◌, ◌&&◌, false, [], ◌+◌, ◌≤◌, ◌<◌, ◌*ℤ◌, ◌-ℤ◌, length};
 ghost use Rattle.arithmetic.specs.Bits.{shl};
 ghost use Rattle.arithmetic.specs.Integers.{down, up};

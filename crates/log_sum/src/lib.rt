@@ -1,5 +1,7 @@
 // Sums over the settings' records, after `encode_linear_log` of log.rs: their literals with the coefficients, their offsets in the
 // constant. A call that is lent no entries only counts.
+#![tactic(auto)]
+
 ghost use Rattle.std.specs.Prelude.{◌≡◌, false, ◌+◌, ◌*◌, ◌/◌, ◌≤◌, ◌<◌, pos, ◌*ℤ◌, ◌+ℤ◌, get_or, length};
 ghost use Rattle.arithmetic.specs.Integers.{down, up};
 ghost use Rattle.clause_set.specs.Stores.{after};

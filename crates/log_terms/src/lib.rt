@@ -1,5 +1,7 @@
 // The terms of a sum, after `encode_linear_log_from_encodings` of log.rs: gathered into columns by weight, and what Eq's negated
 // literals add too much.
+#![tactic(auto)]
+
 ghost use Rattle.std.specs.Prelude.{◌≡◌, cond, [], ◌∷◌, ◌-◌, ◌*◌, ◌≤◌, ◌<◌, length, replicate};
 ghost use Rattle.std.specs.Bool.{beq};
 ghost use Rattle.arithmetic.specs.Bits.{shl};
@@ -12,7 +14,7 @@ use log_gather::{negate_all, no_columns, push_scaled, width_after};
 use sat::Lit;
 
 // Literals of a number, the lowest first, and how many, with a coefficient and its sign.
-#[derive(Drop)]
+#[derive(Clone, Copy)]
 pub struct Weighted {
     pub negative: bool,
     pub coef: u32,

@@ -1,5 +1,7 @@
 // Sums of all six operations over the settings' records (document 02, #102): Le, Lt and Gt are turned to Ge, after `normalized` in
 // `encode_constraint` of encoder/mod.rs. A call that is lent no entries only counts.
+#![tactic(auto)]
+
 ghost use Rattle.std.specs.Prelude.{◌≡◌, false, ◌%◌, ◌≤◌, length, take};
 ghost use Rattle.arithmetic.specs.Integers.{down, up};
 ghost use Rattle.clause_set.specs.Stores.{after};
@@ -18,7 +20,7 @@ use log_sum::{encode_linear_log, linear_height};
 use log_var::LogEncoding;
 
 // A sum of Eq, Ne or Ge, after `LinearLit` of norm_csp/mod.rs: operation, constant, and terms in the first places.
-#[derive(Drop)]
+#[derive(Clone, Copy)]
 pub struct LinearLit {
     pub op: u32,
     pub constant: i32,

@@ -1,4 +1,6 @@
 // A setting's record and clauses, after `encode_var_log` of log.rs, and its value. A call that is lent no entries only counts.
+#![tactic(auto)]
+
 ghost use Rattle.std.specs.Prelude.{◌≡◌, ◌+◌, ◌-◌, ◌*◌, ◌^◌, ◌≤◌, ◌<◌};
 ghost use Rattle.arithmetic.specs.Integers.{down, up};
 ghost use Rattle.sat.specs.Fresh.{fresh};
@@ -16,7 +18,7 @@ use log_domain::{add_against, add_bound, add_gaps};
 use sat::{Lit, Var};
 
 // The setting record: its literals, the lowest first, how many they are, lowest and highest value, offset.
-#[derive(Drop)]
+#[derive(Clone, Copy)]
 pub struct LogEncoding {
     pub lits: [Lit; 12],
     pub len: u32,
@@ -26,7 +28,7 @@ pub struct LogEncoding {
 }
 
 // A setting's record, and the counts of variables and of the stores after it.
-#[derive(Drop)]
+#[derive(Clone, Copy)]
 pub struct EncodedVar {
     pub encoding: LogEncoding,
     pub vars: u32,
@@ -34,7 +36,7 @@ pub struct EncodedVar {
 }
 
 // The offset, the lowest and the highest code, and how many bits they take.
-#[derive(Drop)]
+#[derive(Clone, Copy)]
 struct CodeRange {
     offset: i32,
     low: u32,
@@ -138,7 +140,7 @@ pub fn encode_list(
 }
 
 // One bit of two values: its literal, the next new variable, and the counts after its clause.
-#[derive(Drop)]
+#[derive(Clone, Copy)]
 struct EncodedBit {
     lit: Lit,
     next: Var,
@@ -184,7 +186,7 @@ fn encode_bit(
 }
 
 // The bits of two values: their literals, and the counts of variables and of the stores after them.
-#[derive(Drop)]
+#[derive(Clone, Copy)]
 struct EncodedBits {
     lits: [Lit; 12],
     vars: u32,

@@ -1,5 +1,7 @@
 // Sums of literals with coefficients, after `encode_linear_log_from_encodings` of log.rs: the terms in columns, the two adders, the
 // comparison. A call that is lent no entries only counts.
+#![tactic(auto)]
+
 ghost use Rattle.std.specs.Prelude.{◌≡◌, false, true, [], ◌∷◌, ◌++◌, max, ◌+◌, ◌-◌, ◌≤◌, ◌<◌, length};
 ghost use Rattle.arithmetic.specs.Bits.{bit_length};
 ghost use Rattle.arithmetic.specs.Integers.{down, up};
@@ -76,7 +78,7 @@ fn sign_adder(
 }
 
 // The bits of a sum's positive and negative part, and the counts after them.
-#[derive(Drop)]
+#[derive(Clone, Copy)]
 pub struct Sums {
     pub positive: Bits,
     pub negative: Bits,

@@ -1,6 +1,8 @@
 // The clauses of one inequality and of one equation, after `encode_linear_ge_mixed_from_info` and `encode_linear_eq_mixed_from_info` of
 // mixed.rs. A call that is lent no entries only counts.
 // The thresholds of the terms go into one table (specs/Filling), by which the clauses are told.
+#![tactic(auto)]
+
 ghost use Rattle.std.specs.Prelude.{◌≡◌, map, ◌+◌, ◌*◌, ◌^◌, ◌≤◌, ◌<◌, length, replicate};
 ghost use Rattle.clause_set.specs.Stores.{Fits, add_clauses, after};
 ghost use Rattle.log_encoding.specs.Enumerate.{bounded};
@@ -13,7 +15,7 @@ use sat::Lit;
 
 // A term of an inequality: `count` thresholds, the first with the literal `first`, the others with those of the variables after it.
 // Each is worth `weight`. Where the coefficient is negative (`falling`), they are the negations, from the last variable down.
-#[derive(Drop)]
+#[derive(Clone, Copy)]
 pub struct LinearInfo {
     pub weight: u32,
     pub falling: bool,

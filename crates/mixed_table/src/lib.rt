@@ -1,5 +1,7 @@
 // The clauses that a table of thresholds tells (specs/Table), by the recursion of mixed.rs's `encode_sub`. A call that is lent no entries
 // only counts.
+#![tactic(auto)]
+
 ghost use Rattle.std.specs.Prelude.{◌≡◌, [], ◌∷◌, ◌++◌, ◌+◌, ◌^◌, ◌<◌, length, take};
 ghost use Rattle.std.proofs.lemmas.List.Edits.{sets};
 ghost use Rattle.clause_set.specs.Stores.{Fits, add_clauses, after};

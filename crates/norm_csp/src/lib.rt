@@ -1,1 +1,2 @@
 // The plain book's settings and rules: definitions only (specs/).
+#![tactic(auto)]

@@ -1,4 +1,6 @@
 // The size of a product from its settings' bit counts and offsets. No literal is gathered.
+#![tactic(auto)]
+
 ghost use Rattle.std.specs.Prelude.{◌≡◌, true, ◌≤◌};
 ghost use Rattle.log_encoding.specs.MulSize.{mul_reached, mul_size, multiplier_reached, offset_shapes, offsets_reached};
 ghost use Rattle.log_product.specs.Ready.{ProductsReady};
@@ -21,7 +23,7 @@ use sum_size::{SettingShape, setting_shape, term_shape};
 use terms_size::{RuleSize, equation_size, too_tall};
 
 // What a multiplier takes, and how many bits the product has; nothing where a column is too tall.
-#[derive(Drop)]
+#[derive(Clone, Copy)]
 struct MultiplierSize {
     tall: bool,
     bits: u32,

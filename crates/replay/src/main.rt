@@ -1,4 +1,6 @@
 // Answers the script of calls on standard input (crate `script` says how), from a job and stores of all 0.
+#![tactic(auto)]
+
 ghost use Rattle.std.specs.Prelude.{◌≤◌, length};
 ghost use Rattle.script.specs.Run.{Lent};
 

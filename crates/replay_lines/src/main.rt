@@ -1,5 +1,7 @@
 // Answers each line of standard input as a script of its own (crate `script`): a line that cannot be read prints `bad line 1`, and the
 // next is answered all the same. So one input tries lines of every kind.
+#![tactic(auto)]
+
 ghost use Rattle.std.specs.Prelude.{◌≤◌, length};
 
 use script::Part;

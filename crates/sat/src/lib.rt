@@ -1,11 +1,13 @@
 // Variables and literals, after sat.rs. A variable number never stands where a literal number is due.
+#![tactic(auto)]
+
 ghost use Rattle.std.specs.Prelude.{◌≡◌, ◌<◌};
 ghost use Rattle.sat.specs.Lit.{as_lit, var, is_negated, neg};
 
-#[derive(Drop)]
+#[derive(Clone, Copy)]
 pub struct Var(pub u32);
 
-#[derive(Drop)]
+#[derive(Clone, Copy)]
 pub struct Lit(pub u32);
 
 impl Var {

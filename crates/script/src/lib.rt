@@ -10,6 +10,8 @@
 //   show                    prints the job and the lent stores
 // A call prints `STATUS VALUE VARIABLES CLAUSES LITERALS`, an accepted `clause` also ` :` and its literals, `solution` and `answer` always
 // ` :` and the lent slice, `size` and `size_mul` always ` :` and new variables, clauses and literal entries. A line that cannot be read prints `bad line N` and ends the run; an empty line is passed over.
+#![tactic(auto)]
+
 mod print;
 mod words;
 
@@ -21,7 +23,7 @@ use lines::{Line, Unsigned, Word};
 use words::Answered;
 
 // What is kept from line to line.
-#[derive(Drop)]
+#[derive(Clone, Copy)]
 pub struct Run {
     pub env: EncoderEnv,
     // how many entries of each store are lent
@@ -106,7 +108,7 @@ pub fn stops(run: Run) -> bool {
 }
 
 // A store's length, if it is within bounds.
-#[derive(Drop)]
+#[derive(Clone, Copy)]
 struct Length {
     value: usize,
     good: bool,
@@ -183,7 +185,7 @@ fn end_line(line: Line, nums: &mut [i64], run: Run, lits: &mut [u32], ends: &mut
 }
 
 // The line that the next bytes continue, and the run up to it.
-#[derive(Drop)]
+#[derive(Clone, Copy)]
 pub struct Part {
     pub line: Line,
     pub run: Run,

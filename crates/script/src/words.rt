@@ -7,7 +7,7 @@ use lines::{Unsigned, Word};
 use script_calls::{Next, Sized};
 
 // The job after a line, whether the line could be read, and whether all of its answer could be written.
-#[derive(Drop)]
+#[derive(Clone, Copy)]
 pub struct Answered {
     pub env: EncoderEnv,
     pub good: bool,

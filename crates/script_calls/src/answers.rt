@@ -6,7 +6,7 @@ use encoder_env::EncoderEnv;
 use lines::Unsigned;
 
 // The length of the lent slice; the bytes given are the first `count` entries of a list.
-#[derive(Drop)]
+#[derive(Clone, Copy)]
 pub struct Given {
     pub len: usize,
     pub count: usize,
@@ -47,7 +47,7 @@ pub fn given_of(nums: &[i64], bytes: &mut [u8]) -> Given
 }
 
 // The number and the value that a call answered.
-#[derive(Drop)]
+#[derive(Clone, Copy)]
 pub struct Called {
     pub status: u32,
     pub value: i32,

@@ -4,7 +4,7 @@ use encoder::Figures;
 use encoder_env::EncoderEnv;
 
 // The figures of a rule.
-#[derive(Drop)]
+#[derive(Clone, Copy)]
 pub struct Sized {
     pub figures: Figures,
     // whether the line could be read

@@ -1,4 +1,6 @@
 // A line of a script as a call of the encoder, on the job and the lent stores: every call but `clause`. Nothing is printed.
+#![tactic(auto)]
+
 mod answers;
 mod figures;
 mod rules;
@@ -12,7 +14,7 @@ pub use rules::{product_of, sum_of};
 use sat::Lit;
 
 // The job after a line, whether the line could be read, and what a call answered.
-#[derive(Drop)]
+#[derive(Clone, Copy)]
 pub struct Next {
     pub env: EncoderEnv,
     pub good: bool,

@@ -4,7 +4,7 @@ ghost use Rattle.std.specs.Prelude.{◌≤◌, length};
 use lines::{Signed, Unsigned};
 
 // A sum: its terms are the first `count` entries of a list.
-#[derive(Drop)]
+#[derive(Clone, Copy)]
 pub struct Sum {
     pub op: u32,
     pub constant: i32,
@@ -48,7 +48,7 @@ pub fn sum_of(nums: &[i64], terms: &mut [i32]) -> Sum
 }
 
 // A product.
-#[derive(Drop)]
+#[derive(Clone, Copy)]
 pub struct Product {
     pub x: u32,
     pub y: u32,

@@ -1,5 +1,7 @@
 // What a script may put in place of what the calls left: the job that the integers of a line say, and stores of all 0. A job's integers are
 // its counts of switches, variables, clauses, literals and settings, then 32 records of 16.
+#![tactic(auto)]
+
 ghost use Rattle.std.specs.Prelude.{◌≡◌, ◌<◌, length, replicate};
 ghost use Rattle.script_state.specs.Job.{fits, is_job, job_of, lits_from, record_from, records_from, signed_or_0, signed_place, unsigned_or_0};
 

@@ -1,4 +1,6 @@
 // The lines of a solver's answer in code: a line's end, its word, and the numbers behind it. Nothing is kept.
+#![tactic(auto)]
+
 ghost use Rattle.std.specs.Prelude.{◌≡◌, true, [], ◌∷◌, drop, length, take, ◌*◌, ◌+◌, ◌-◌, ◌<◌, ◌≤◌, min};
 ghost use Rattle.lines.specs.Integers.{is_digit};
 ghost use Rattle.lines.specs.Reading.{first_piece, split};
@@ -8,7 +10,7 @@ ghost use Rattle.solver_lines.specs.Scans.{DigitsRead, FoundAt, PlainRead, Token
 use lines::is_digit;
 
 // A number of a `v` line, at most 65536, and the place behind it.
-#[derive(Drop)]
+#[derive(Clone, Copy)]
 pub struct Token {
     // whether it is a number
     pub good: bool,
@@ -18,7 +20,7 @@ pub struct Token {
 }
 
 // Digits, their value at most 65536, and the place behind them.
-#[derive(Drop)]
+#[derive(Clone, Copy)]
 pub struct DigitRun {
     pub size: u32,
     pub end: usize,

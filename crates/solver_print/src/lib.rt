@@ -1,4 +1,6 @@
 // The print of an assignment as a solver's answer, into a lent slice. Each `put_..` answers the place behind what it wrote.
+#![tactic(auto)]
+
 ghost use Rattle.std.specs.Prelude.{◌≡◌, length, ◌≤◌};
 ghost use Rattle.text.specs.Bytes.{Printed, text as text_of, write};
 ghost use Rattle.solver_answer.specs.Print.{print, signed, values_from};

@@ -1,4 +1,6 @@
 // A solver's answer read: its lines, once from the first to the last, then what they come to.
+#![tactic(auto)]
+
 ghost use Rattle.std.specs.Prelude.{◌≡◌, ◌||◌, cond, drop, length, ◌≤◌};
 ghost use Rattle.lines.specs.Reading.{split};
 ghost use Rattle.solver_answer.specs.Answer.{Reads};
@@ -8,7 +10,7 @@ use solver_answer::Solution;
 use solver_lines::{find, part, same, token_at, word_is};
 
 // Where a reading stands: 0 before the `s` line, 1 behind a satisfiable one, 2 behind an unsatisfiable one, 3 broken.
-#[derive(Drop)]
+#[derive(Clone, Copy)]
 pub struct State {
     pub phase: u32,
     // a 0 was read, and a number behind it

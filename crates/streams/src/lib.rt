@@ -1,12 +1,14 @@
 // Standard input, or what a descriptor is open on, read to its end, with a failure told apart from the end; and what is said where reading or
 // writing fails.
+#![tactic(auto)]
+
 ghost use Rattle.std.specs.Prelude.{length, ◌+◌, ◌≤◌};
 ghost use Rattle.streams.specs.Input.{bytes_read};
 
 use libc::{STDERR_FILENO, STDIN_FILENO};
 
 // What a reading came to: how many bytes it put at the start of the buffer, or that a read failed.
-#[derive(Drop)]
+#[derive(Clone, Copy)]
 pub enum Input {
     Bytes(usize),
     Failed,

@@ -1,4 +1,6 @@
 // The size of a sum over the settings' records, of all six operations, from bit counts, offsets, coefficients and the constant.
+#![tactic(auto)]
+
 ghost use Rattle.std.specs.Prelude.{◌≡◌, ◌+◌, ◌/◌, ◌≤◌, ◌<◌, length};
 ghost use Rattle.arithmetic.specs.Bits.{shl};
 ghost use Rattle.arithmetic.specs.Integers.{down, up};
@@ -22,7 +24,7 @@ use log_var::LogEncoding;
 use terms_size::{RuleSize, terms_size};
 
 // The numbers of a setting: how many bits it has, and its offset.
-#[derive(Drop)]
+#[derive(Clone, Copy)]
 pub struct SettingShape {
     pub bits: usize,
     pub offset: i32,

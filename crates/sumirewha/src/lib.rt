@@ -1,5 +1,7 @@
 // A job file's run, its text, a solver's answer to it and the figures of one more field, for callers in C and Rust
 // (`rt staticlib sumirewha`): a slice is a pointer and a length.
+#![tactic(auto)]
+
 ghost use Rattle.std.specs.Prelude.{◌≡◌};
 ghost use Rattle.job_file.specs.Run.{job_run, run_file};
 ghost use Rattle.job_figures.specs.FileFigures.{FileFigures};
@@ -45,7 +47,7 @@ pub extern "C" fn sumirewha_print(
 }
 
 // The number and the value of a call after a job file.
-#[derive(Drop)]
+#[derive(Clone, Copy)]
 struct Called {
     status: u32,
     value: u32,

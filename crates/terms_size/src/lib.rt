@@ -1,4 +1,6 @@
 // The size of a sum from its terms' numbers: bit counts, coefficients and the constant. No literal is gathered.
+#![tactic(auto)]
+
 ghost use Rattle.std.specs.Prelude.{◌≡◌, false, true, ◌++◌, max, ◌≤◌, ◌<◌};
 ghost use Rattle.arithmetic.specs.Bits.{bit_length};
 ghost use Rattle.arithmetic.specs.Integers.{down, up};
@@ -20,7 +22,7 @@ use log_linear::RuleCounts;
 use log_weighted::excess;
 
 // What a rule takes: whether a column is too tall, else its variables, clauses and literal entries.
-#[derive(Drop)]
+#[derive(Clone, Copy)]
 pub struct RuleSize {
     pub tall: bool,
     pub size: RuleCounts,
@@ -43,7 +45,7 @@ pub fn too_tall() -> RuleSize
 }
 
 // How many literals each column has, how many columns there are, and the greatest height that is reached.
-#[derive(Drop)]
+#[derive(Clone, Copy)]
 struct Columns {
     counts: [u32; 32],
     width: usize,

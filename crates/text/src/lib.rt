@@ -1,4 +1,6 @@
 // Text written into a lent slice of bytes, from a place on. Each function answers the place behind what it wrote.
+#![tactic(auto)]
+
 ghost use Rattle.std.specs.Prelude.{◌≡◌, [], ◌∷◌, length, ◌+◌, ◌<◌, ◌≤◌};
 ghost use Rattle.text.specs.Bytes.{text, write};
 ghost use Rattle.text.specs.Decimal.{decimal, integer};

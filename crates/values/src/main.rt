@@ -1,5 +1,7 @@
 // Prints the values that a solver's answer on standard input gives to the settings and switches of the job file named by the first argument.
 // Where reading fails, nothing is printed.
+#![tactic(auto)]
+
 ghost use Rattle.std.specs.Prelude.{length, ◌≤◌};
 ghost use Rattle.streams.specs.Input.{bytes_read};
 

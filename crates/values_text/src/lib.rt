@@ -1,5 +1,7 @@
 // The values of a job's settings and switches under an assignment, as text in a lent slice. Each `put_..` answers the
 // place behind what it wrote.
+#![tactic(auto)]
+
 ghost use Rattle.std.specs.Prelude.{◌≡◌, get_or};
 ghost use Rattle.encoder_read.specs.Calls.{test_status};
 ghost use Rattle.text.specs.Bytes.{text as text_of, write};
