@@ -1,5 +1,5 @@
 -- The ordering clauses of a carry, one after the other; a column's carry.
-use mathlib.Core.Path.{◌≡◌, refl}
+use mathlib.Core.Path.{◌≡◌, refl, ap, sym, ◌∙◌}
 use mathlib.Core.List.{[], ◌∷◌}
 use Prim.Native.Nat.{ℕ, zero, suc, ◌+◌, ◌-◌, ◌*◌, ◌≤◌, ◌<◌}
 use native.Mathlib.Nat.{not-suc-le-zero}
@@ -14,7 +14,9 @@ use Rattle.log_encoding.specs.Adder2.{ordering}
 pub ordering_step : (n v : ℕ) → 1 < n → ordering (fresh n v) ≡ (2 * v ∷ neg (2 * (v + 1)) ∷ []) ∷ ordering (fresh (n - 1) (v + 1))
 ordering_step zero v h = absurd (not-suc-le-zero h)
 ordering_step (suc zero) v h = let z : 1 < 1 = h in absurd (omega arith)
-ordering_step (suc (suc n)) v h = rw (sub-one (suc (suc n)), add-one v)
+ordering_step (suc (suc n)) v h =
+    ap (λ (k : ℕ). (2 * v ∷ neg (2 * k) ∷ []) ∷ ordering (fresh (suc n) k)) (sym (add-one v))
+    ∙ ap (λ (m : ℕ). (2 * v ∷ neg (2 * (v + 1)) ∷ []) ∷ ordering (fresh m (v + 1))) (sym (sub-one (suc (suc n))))
 
 pub ordering_none : (n v : ℕ) → n ≤ 1 → ordering (fresh n v) ≡ []
 ordering_none zero v h = refl
