@@ -5,11 +5,11 @@ use mathlib.Core.Path.{◌≡◌, ap, refl, sym}
 use mathlib.Core.Bool.{Bool, cond, false, not, true, true≢false}
 use mathlib.Core.List.{List, [], ◌∷◌}
 use lib.Dec.{eqb, leb, ltb}
-use lib.ListN.{drop, drop_of_length-le, get_or, length, length-drop, take}
+use lib.ListN.{drop, drop_of_length-le, get_or, length, length-drop}
 use lib.Seq.{drop-cons, drop-drop}
 use borrow.Author.Tests.{eq-eqb, eqb-true, le-leb, le-ltb, leb-false, leb-true, lt-leb, lt-ltb, ltb-false, ltb-true, ne_eqb}
 use Rattle.job_fields.specs.Numbers.{word_at}
-use Rattle.job_fields.specs.Fields.{Field, broken, field, fields, right_length, right_place}
+use Rattle.job_fields.specs.Fields.{broken, fields, right_length, right_place}
 use Rattle.job_fields.specs.Places.{field_at, fields_from, number_at}
 use Rattle.job_fields.specs.declared.fields.FieldAt.{FieldAt}
 use Rattle.job_fields.specs.declared.fields.FieldAt.TheVariants.{Broken, Contents, End}

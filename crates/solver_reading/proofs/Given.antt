@@ -6,7 +6,7 @@ use lib.ListN.{get_or, length, length-set, set}
 use lib.Seq.{get_or-set_other, get_or-set_same}
 use mathlib.Core.Bool.{Bool, ◌&&◌, ◌||◌, cond, false, not, true, true≢false}
 use mathlib.Core.List.{List, [], ◌++◌, ◌∷◌}
-use mathlib.Core.Path.{◌∙◌, ◌≡◌, ap, refl, sym}
+use mathlib.Core.Path.{◌∙◌, ◌≡◌, ap, refl, sym, subst}
 use native.Mathlib.Omega.{arith}
 use Rattle.lines.proofs.Steps.{and_left, and_right}
 use Rattle.solver_answer.specs.Answer.{bytes_from, each_given, each_once, is_true, known, times}
@@ -225,7 +225,7 @@ module _ (n : ℕ) where
               let z = eqb-true v u q in
               let g = (giving_fore n r m ms long u e h d f).once u h in
               let y : times (suc u) ms ≡ 0 = omega (arith, rw (free_set r.bytes u m.negative (omega arith)) at g) in
-              rw z (byte_this r.bytes m ms u e (omega arith) y)
+              subst (λ (w : ℕ). byte (set r.bytes u (cond m.negative 0 1)) ms w ≡ byte r.bytes (m ∷ ms) w) (sym z) (byte_this r.bytes m ms u e (omega arith) y)
           at false q =
               let z = eqb-false v u q in
               byte_other r.bytes (set r.bytes u (cond m.negative 0 1)) m ms v (λ y. z (omega (arith, y, e))) (get_or-set_other r.bytes u v (cond m.negative 0 1) 0 z)

@@ -1,0 +1,10 @@
+-- `job_fields::numbers::signed_word` meets its contract.
+use mathlib.Core.Path.{◌∙◌, ap}
+use mir.Syntax.{w32}
+use mir.ValLaws.{to_z-of_z}
+use Rattle.job_fields.specs.Numbers.{signed, signed_word}
+use Rattle.job_fields.proofs.numbers.signed_word.Goals as goal
+
+pub returns : goal.returns
+unfolding signed_word
+returns c = to_z-of_z w32 c.signed.result (record { sfits = c.signed.type_inv }) ∙ c.signed.ensures ∙ ap (signed 32768) c.word.ensures.0

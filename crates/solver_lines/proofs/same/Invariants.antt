@@ -1,0 +1,12 @@
+-- `solver_lines::same` meets its contract.
+use Rattle.solver_answer.specs.Lines.{same}
+use mathlib.Core.Path.{◌≡◌}
+use lib.ListN.{drop, length}
+use Prim.Native.Nat.{◌-◌, ◌≤◌}
+use Rattle.solver_lines.proofs.same.Given as goal
+
+abbrev pub invariant-loop-i : goal.invariant-loop-i
+invariant-loop-i l = (l.i ≤ length l.a) × (l.i ≤ length l.b) × (same (drop l.i l.a) (drop l.i l.b) ≡ same l.a l.b)
+
+abbrev pub decreases-loop-i : goal.decreases-loop-i
+decreases-loop-i l = length l.a - l.i

@@ -1,0 +1,10 @@
+-- `solver_print::print_assignment` meets its contract.
+use Rattle.text.proofs.Laws.{not_printed, printed}
+use Rattle.solver_print.proofs.print_assignment.Goals as goal
+
+pub returns-then-size-out : goal.returns-then-size-out
+returns-then-size-out c =
+    printed _ _ _ c.print_length-size.ensures c.if-size-out.true c.put_print.ensures
+
+pub returns-else-size-out : goal.returns-else-size-out
+returns-else-size-out c = not_printed _ _ c.print_length-size.ensures c.if-size-out.false
