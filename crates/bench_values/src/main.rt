@@ -6,9 +6,9 @@
 mod heights;
 
 use encoder_env::EncoderEnv;
-use libc::STDOUT_FILENO;
 use lines::{Line, Word};
 use script_calls::{Next, bad, good};
+use std::io;
 use streams::Input;
 
 // The greatest height that the call of a line reaches on this job.
@@ -27,11 +27,11 @@ fn height(word: Word, nums: &[i64], env: EncoderEnv, lits: usize, ends: usize) -
 }
 
 // `STATUS HEIGHT`
-fn show(status: u32, height: u32) -> bool {
-    io::print_decimal(STDOUT_FILENO, status as u64)
-        && io::write_all(STDOUT_FILENO, b" ")
-        && io::print_decimal(STDOUT_FILENO, height as u64)
-        && io::write_all(STDOUT_FILENO, b"\n")
+fn show<R: Print>(rt: &R, status: u32, height: u32) -> bool {
+    rt.print(status).is_ok()
+        && rt.write_all(b" ").is_ok()
+        && rt.print(height).is_ok()
+        && rt.write_all(b"\n").is_ok()
 }
 
 // The job after a line, whether the line could be read, and whether its answer could be written.
@@ -58,7 +58,8 @@ fn are_lengths(nums: &[i64]) -> bool {
 }
 
 // A line with this word and these integers.
-fn answer(
+fn answer<R: Print>(
+    rt: &R,
     word: Word,
     nums: &[i64],
     env: EncoderEnv,
@@ -76,12 +77,13 @@ fn answer(
     if !next.good {
         return silent(next);
     }
-    let written = show(next.status, most);
+    let written = show(rt, next.status, most);
     Answered { next, written }
 }
 
 // A line that ends here.
-fn end_line(
+fn end_line<R: Print>(
+    rt: &R,
     line: Line,
     nums: &mut [i64],
     env: EncoderEnv,
@@ -95,23 +97,23 @@ fn end_line(
     if !numbers.good {
         return silent(bad(env));
     }
-    answer(word, &nums[..n], env, lits, ends)
+    answer(rt, word, &nums[..n], env, lits, ends)
 }
 
 // All lines, from the job of all 0. Answers whether all could be written.
-fn run(s: &[u8], nums: &mut [i64], lits: &mut [u32], ends: &mut [u32]) -> bool {
+fn run<R: Print>(rt: &R, s: &[u8], nums: &mut [i64], lits: &mut [u32], ends: &mut [u32]) -> bool {
     let mut env = encoder_read::opened(0);
     let mut at: usize = 0;
     while at < s.len() {
         let fed = lines::feed(nums, lines::line_start(), s, at);
         let line = fed.line;
-        let answered = end_line(line, nums, env, lits, ends);
+        let answered = end_line(rt, line, nums, env, lits, ends);
         let next = answered.next;
         if !answered.written {
             return false;
         }
         if !next.good {
-            return io::write_all(STDOUT_FILENO, b"bad line\n");
+            return rt.write_all(b"bad line\n").is_ok();
         }
         env = next.env;
         at = fed.next;
@@ -120,30 +122,37 @@ fn run(s: &[u8], nums: &mut [i64], lits: &mut [u32], ends: &mut [u32]) -> bool {
 }
 
 // The lines of standard input, up to the length of `input`.
-fn run_input(input: &mut [u8], nums: &mut [i64], lits: &mut [u32], ends: &mut [u32]) {
-    let Input::Bytes(n) = streams::read_input(input) else {
-        streams::cannot_read();
+fn run_input<R: io::Input + Print + Eprint>(
+    rt: &R,
+    input: &mut [u8],
+    nums: &mut [i64],
+    lits: &mut [u32],
+    ends: &mut [u32],
+) {
+    let Input::Bytes(n) = streams::read_input(rt, input) else {
+        streams::cannot_read(rt);
         return;
     };
-    if !run(&input[..n], nums, lits, ends) {
-        streams::cannot_write();
+    if !run(rt, &input[..n], nums, lits, ends) {
+        streams::cannot_write(rt);
     }
 }
 
 // The arrays' types say how long they are, so that the check does not count their entries.
-fn run_in_arrays(
+fn run_in_arrays<R: io::Input + Print + Eprint>(
+    rt: &R,
     input: &mut [u8; 65536],
     nums: &mut [i64; 65537],
     lits: &mut [u32; 524288],
     ends: &mut [u32; 131072],
 ) {
-    run_input(input, nums, lits, ends);
+    run_input(rt, input, nums, lits, ends);
 }
 
-fn main() {
+fn main(rt: HostRuntime) {
     let mut input = [0u8; 65536];
     let mut nums = [0i64; 65537];
     let mut lits = [0u32; 524288];
     let mut ends = [0u32; 131072];
-    run_in_arrays(&mut input, &mut nums, &mut lits, &mut ends);
+    run_in_arrays(&rt, &mut input, &mut nums, &mut lits, &mut ends);
 }

@@ -3,7 +3,7 @@
 
 ghost use Rattle.std.specs.Prelude.{◌<◌, ◌≤◌, length};
 
-use libc::STDOUT_FILENO;
+use std::io;
 use streams::Input;
 
 fn wide(x: u8) -> usize
@@ -13,37 +13,42 @@ fn wide(x: u8) -> usize
 }
 
 // The next `len` bytes, or those that are left: a job file. Answers whether they could be read and their text written.
-fn print_next(len: usize, input: &mut [u8], out: &mut [u8]) -> bool
+fn print_next<R: io::Input + Print + Eprint>(
+    rt: &R,
+    len: usize,
+    input: &mut [u8],
+    out: &mut [u8],
+) -> bool
     requires { (8193 ≤ length input.old) × (len ≤ length input.old) × (65551 ≤ length out.old) }
 {
-    let Input::Bytes(n) = streams::read_input(&mut input[..len]) else {
-        streams::cannot_read();
+    let Input::Bytes(n) = streams::read_input(rt, &mut input[..len]) else {
+        streams::cannot_read(rt);
         return false;
     };
     let size = job_print::print_job(input, n, out);
-    if !io::write_all(STDOUT_FILENO, &out[..size]) {
-        streams::cannot_write();
+    if rt.write_all(&out[..size]).is_err() {
+        streams::cannot_write(rt);
         return false;
     }
     true
 }
 
 // (No input has 2 ^ 64 job files.)
-fn main() {
+fn main(rt: HostRuntime) {
     let mut head = [0u8; 2];
     let mut input = [0u8; 65535];
     let mut out = [0u8; 65551];
     let mut turns: u64 = 18446744073709551615;
     while turns > 0 {
-        let Input::Bytes(n) = streams::read_input(&mut head) else {
-            streams::cannot_read();
+        let Input::Bytes(n) = streams::read_input(&rt, &mut head) else {
+            streams::cannot_read(&rt);
             return;
         };
         if n < 2 {
             return;
         }
         let len = 256 * wide(head[0]) + wide(head[1]);
-        if !print_next(len, &mut input, &mut out) {
+        if !print_next(&rt, len, &mut input, &mut out) {
             return;
         }
         turns -= 1;

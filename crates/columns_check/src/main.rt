@@ -21,6 +21,7 @@ use log_adder2::EqInput;
 use mixed::LinearInfo;
 use print::{show, show_clauses, show_number};
 use sat::Lit;
+use std::io;
 use streams::Input;
 
 // Number i of a line, or 0 past the end. Negative and greater ones are refused where the line is read.
@@ -141,10 +142,10 @@ fn read_terms(nums: &[i64]) -> Terms
     }
 }
 
-fn run_ge(nums: &[i64], lits: &mut [u32], ends: &mut [u32]) -> bool {
+fn run_ge<R: Print>(rt: &R, nums: &[i64], lits: &mut [u32], ends: &mut [u32]) -> bool {
     let t = read_terms(nums);
     if !t.good || t.last > 24 {
-        return show(b"bad line\n");
+        return show(rt, b"bad line\n");
     }
     let above = number(nums, 0) as u64;
     let below = number(nums, 1) as u64;
@@ -159,7 +160,7 @@ fn run_ge(nums: &[i64], lits: &mut [u32], ends: &mut [u32]) -> bool {
         0,
         nothing(),
     );
-    show(b"ge") && show_clauses(lits, ends, used)
+    show(rt, b"ge") && show_clauses(rt, lits, ends, used)
 }
 
 // Columns ----------------------------------------------------------------------------------------------------------------
@@ -248,29 +249,29 @@ fn gather(nums: &[i64], from: usize, counts: &mut [u32; 32]) -> [[Lit; 12]; 32]
 }
 
 // The literals of the sum's bits, behind the word and the variable count.
-fn show_bits(s: AdderState) -> bool {
-    let mut written = show(b"adder") && show_number(s.vars);
+fn show_bits<R: Print>(rt: &R, s: AdderState) -> bool {
+    let mut written = show(rt, b"adder") && show_number(rt, s.vars);
     let bits = s.bits;
     let mut i: usize = 0;
     while i < 32 && i < s.len && written {
         let l = bits[i];
-        written = show_number(l.0);
+        written = show_number(rt, l.0);
         i += 1;
     }
-    written && show(b" :")
+    written && show(rt, b" :")
 }
 
-fn run_adder(nums: &[i64], lits: &mut [u32], ends: &mut [u32]) -> bool
+fn run_adder<R: Print>(rt: &R, nums: &[i64], lits: &mut [u32], ends: &mut [u32]) -> bool
     requires { length nums.now ≤ 511 }
 {
     let vars = number(nums, 0);
     let width = number(nums, 2) as usize;
     let given = number(nums, 3) as usize;
     if vars > 1048576 || width > 26 || given > width || 4 + given > nums.len() {
-        return show(b"bad line\n");
+        return show(rt, b"bad line\n");
     }
     if !rows_fit(nums, 4 + given) {
-        return show(b"bad line\n");
+        return show(rt, b"bad line\n");
     }
     let mut counts = [0u32; 32];
     let cols = gather(nums, 4 + given, &mut counts);
@@ -280,14 +281,14 @@ fn run_adder(nums: &[i64], lits: &mut [u32], ends: &mut [u32]) -> bool
         given,
     };
     if 12 < log_adder::greatest_height(counts, p.width, p.constant) {
-        return show(b"tall\n");
+        return show(rt, b"tall\n");
     }
     let first = lits_from(nums, 4, given);
     let s = log_adder::log_encoding_adder(lits, ends, cols, counts, first, p, vars, nothing());
-    show_bits(s) && show_clauses(lits, ends, s.used)
+    show_bits(rt, s) && show_clauses(rt, lits, ends, s.used)
 }
 
-fn run_eq_adder(nums: &[i64], lits: &mut [u32], ends: &mut [u32]) -> bool
+fn run_eq_adder<R: Print>(rt: &R, nums: &[i64], lits: &mut [u32], ends: &mut [u32]) -> bool
     requires { length nums.now ≤ 511 }
 {
     let vars = number(nums, 0);
@@ -295,41 +296,47 @@ fn run_eq_adder(nums: &[i64], lits: &mut [u32], ends: &mut [u32]) -> bool
     let x = number(nums, 1);
     let y = number(nums, 2);
     if vars > 1048576 || width > 26 || width == 0 || (x > 0 && y > 0) || !rows_fit(nums, 4) {
-        return show(b"bad line\n");
+        return show(rt, b"bad line\n");
     }
     let mut counts = [0u32; 32];
     let cols = gather(nums, 4, &mut counts);
     let g = EqInput { width, x, y, vars };
     if 12 < log_adder2::eq_greatest_height(counts, width, x, y) {
-        return show(b"tall\n");
+        return show(rt, b"tall\n");
     }
     let s = log_adder2::log_encoding_adder2(lits, ends, cols, counts, g, nothing());
-    show(b"eq_adder") && show_number(s.vars) && show_clauses(lits, ends, s.used)
+    show(rt, b"eq_adder") && show_number(rt, s.vars) && show_clauses(rt, lits, ends, s.used)
 }
 
 // Lines ------------------------------------------------------------------------------------------------------------------
 
 // A line with this word and these numbers. Answers, as the functions above do, whether all could be written.
-fn run(word: Word, nums: &[i64], lits: &mut [u32], ends: &mut [u32]) -> bool
+fn run<R: Print>(rt: &R, word: Word, nums: &[i64], lits: &mut [u32], ends: &mut [u32]) -> bool
     requires { length nums.now ≤ 511 }
 {
     if !all_small(nums) {
-        return show(b"bad line\n");
+        return show(rt, b"bad line\n");
     }
     if lines::is_word(word, b"ge") {
-        return run_ge(nums, lits, ends);
+        return run_ge(rt, nums, lits, ends);
     }
     if lines::is_word(word, b"adder") {
-        return run_adder(nums, lits, ends);
+        return run_adder(rt, nums, lits, ends);
     }
     if lines::is_word(word, b"eq_adder") {
-        return run_eq_adder(nums, lits, ends);
+        return run_eq_adder(rt, nums, lits, ends);
     }
-    show(b"bad line\n")
+    show(rt, b"bad line\n")
 }
 
 // A line that ends here.
-fn end_line(line: Line, nums: &mut [i64], lits: &mut [u32], ends: &mut [u32]) -> bool
+fn end_line<R: Print>(
+    rt: &R,
+    line: Line,
+    nums: &mut [i64],
+    lits: &mut [u32],
+    ends: &mut [u32],
+) -> bool
     requires { length nums.old ≤ 511 }
 {
     let whole = lines::line_whole(nums, line);
@@ -337,20 +344,26 @@ fn end_line(line: Line, nums: &mut [i64], lits: &mut [u32], ends: &mut [u32]) ->
     let numbers = whole.numbers;
     let n = numbers.count;
     if !numbers.good {
-        return show(b"bad line\n");
+        return show(rt, b"bad line\n");
     }
-    run(word, &nums[..n], lits, ends)
+    run(rt, word, &nums[..n], lits, ends)
 }
 
-fn run_lines(s: &[u8], nums: &mut [i64], lits: &mut [u32], ends: &mut [u32])
+fn run_lines<R: Print + Eprint>(
+    rt: &R,
+    s: &[u8],
+    nums: &mut [i64],
+    lits: &mut [u32],
+    ends: &mut [u32],
+)
     requires { length nums.old ≤ 511 }
 {
     let mut at: usize = 0;
     while at < s.len() {
         let fed = lines::feed(nums, lines::line_start(), s, at);
         let line = fed.line;
-        if !end_line(line, nums, lits, ends) {
-            streams::cannot_write();
+        if !end_line(rt, line, nums, lits, ends) {
+            streams::cannot_write(rt);
             return;
         }
         at = fed.next;
@@ -358,30 +371,37 @@ fn run_lines(s: &[u8], nums: &mut [i64], lits: &mut [u32], ends: &mut [u32])
 }
 
 // The lines of standard input, up to the length of `input`.
-fn run_input(input: &mut [u8], nums: &mut [i64], lits: &mut [u32], ends: &mut [u32])
+fn run_input<R: io::Input + Print + Eprint>(
+    rt: &R,
+    input: &mut [u8],
+    nums: &mut [i64],
+    lits: &mut [u32],
+    ends: &mut [u32],
+)
     requires { length nums.old ≤ 511 }
 {
-    let Input::Bytes(n) = streams::read_input(input) else {
-        streams::cannot_read();
+    let Input::Bytes(n) = streams::read_input(rt, input) else {
+        streams::cannot_read(rt);
         return;
     };
-    run_lines(&input[..n], nums, lits, ends);
+    run_lines(rt, &input[..n], nums, lits, ends);
 }
 
 // The arrays' types say how long they are, so that the check does not count their entries.
-fn run_in_arrays(
+fn run_in_arrays<R: io::Input + Print + Eprint>(
+    rt: &R,
     input: &mut [u8; 262144],
     nums: &mut [i64; 511],
     lits: &mut [u32; 524288],
     ends: &mut [u32; 65536],
 ) {
-    run_input(input, nums, lits, ends);
+    run_input(rt, input, nums, lits, ends);
 }
 
-fn main() {
+fn main(rt: HostRuntime) {
     let mut input = [0u8; 262144];
     let mut nums = [0i64; 511];
     let mut lits = [0u32; 524288];
     let mut ends = [0u32; 65536];
-    run_in_arrays(&mut input, &mut nums, &mut lits, &mut ends);
+    run_in_arrays(&rt, &mut input, &mut nums, &mut lits, &mut ends);
 }

@@ -2,34 +2,33 @@
 ghost use Rattle.std.specs.Prelude.{◌≤◌, ◌<◌};
 
 use clause_set::{Counts, entry};
-use libc::STDOUT_FILENO;
 
-pub fn show(line: &[u8]) -> bool {
-    io::write_all(STDOUT_FILENO, line)
+pub fn show<R: Print>(rt: &R, line: &[u8]) -> bool {
+    rt.write_all(line).is_ok()
 }
 
 // The first n bytes of `out`.
-fn show_part(out: &[u8], n: usize) -> bool {
+fn show_part<R: Print>(rt: &R, out: &[u8], n: usize) -> bool {
     if n > out.len() {
         return false;
     }
-    show(&out[..n])
+    show(rt, &out[..n])
 }
 
 // A number behind a space.
-pub fn show_number(n: u32) -> bool {
+pub fn show_number<R: Print>(rt: &R, n: u32) -> bool {
     let mut out = [0u8; 12];
     let from = text::put(&mut out, 0, b' ');
     let end = text::put_decimal(&mut out, from, n);
-    show_part(&out, end)
+    show_part(rt, &out, end)
 }
 
 // A count behind a space.
-fn show_count(n: usize) -> bool {
+fn show_count<R: Print>(rt: &R, n: usize) -> bool {
     if n >= 4294967296 {
         return false;
     }
-    show_number(n as u32)
+    show_number(rt, n as u32)
 }
 
 // The literals of a clause, each behind a space.
@@ -96,23 +95,24 @@ fn digest_clauses(lits: &[u32], ends: &[u32], n: usize) -> u64
 }
 
 // The clauses, or a check sum where there are many.
-fn show_contents(lits: &[u32], ends: &[u32], used: Counts) -> bool {
+fn show_contents<R: Print>(rt: &R, lits: &[u32], ends: &[u32], used: Counts) -> bool {
     if used.lits > lits.len() || used.clauses >= ends.len() {
-        return show(b" too many");
+        return show(rt, b" too many");
     }
     if entry(ends, used.clauses) as usize != used.lits {
-        return show(b" wrong end");
+        return show(rt, b" wrong end");
     }
     if used.lits > 400 {
-        return show(b" sum") && show_number(digest_clauses(lits, ends, used.clauses) as u32);
+        return show(rt, b" sum")
+            && show_number(rt, digest_clauses(lits, ends, used.clauses) as u32);
     }
     let mut out = [0u8; 8192];
     let end = put_clauses(&mut out, lits, ends, used.clauses);
-    show_part(&out, end)
+    show_part(rt, &out, end)
 }
 
 // How many clauses and literals, then these, and a line feed.
-pub fn show_clauses(lits: &[u32], ends: &[u32], used: Counts) -> bool {
-    let counted = show_count(used.clauses) && show_count(used.lits);
-    counted && show_contents(lits, ends, used) && show(b"\n")
+pub fn show_clauses<R: Print>(rt: &R, lits: &[u32], ends: &[u32], used: Counts) -> bool {
+    let counted = show_count(rt, used.clauses) && show_count(rt, used.lits);
+    counted && show_contents(rt, lits, ends, used) && show(rt, b"\n")
 }

@@ -15,7 +15,7 @@ use Rattle.clause_set.specs.Stores.{add_clauses, after}
 use Rattle.clause_set.proofs.Adding.{add_append}
 use Rattle.log_linear.specs.Added.{Added}
 use Rattle.log_linear.proofs.Adding.{added}
-use Rattle.log_linear.proofs.Literals.{lits_long, lits_next, lits_none}
+use Rattle.log_linear.proofs.Literals.{lits_next, lits_none}
 use Rattle.log_mul.specs.Added.{RowsAdded}
 use Rattle.log_encoding.specs.Multiply.{and_gate, row, rows, rows_vars}
 

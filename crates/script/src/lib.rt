@@ -151,7 +151,14 @@ fn run_stores(nums: &[i64], run: Run, lits: &mut [u32], ends: &mut [u32]) -> Run
 }
 
 // A line with this word and these integers.
-fn answer(word: Word, nums: &[i64], run: Run, lits: &mut [u32], ends: &mut [u32]) -> Run
+fn answer<R: Print>(
+    rt: &R,
+    word: Word,
+    nums: &[i64],
+    run: Run,
+    lits: &mut [u32],
+    ends: &mut [u32],
+) -> Run
     requires { Lent run lits.old ends.old }
     ensures { Lent result lits.new ends.new }
 {
@@ -161,12 +168,19 @@ fn answer(word: Word, nums: &[i64], run: Run, lits: &mut [u32], ends: &mut [u32]
     let l = run.lits;
     let e = run.ends;
     let env = run.env;
-    let next = words::answer(word, nums, env, &mut lits[..l], &mut ends[..e]);
+    let next = words::answer(rt, word, nums, env, &mut lits[..l], &mut ends[..e]);
     with_job(run, next)
 }
 
 // A line that ends here: it is answered, unless it is empty.
-fn end_line(line: Line, nums: &mut [i64], run: Run, lits: &mut [u32], ends: &mut [u32]) -> Run
+fn end_line<R: Print>(
+    rt: &R,
+    line: Line,
+    nums: &mut [i64],
+    run: Run,
+    lits: &mut [u32],
+    ends: &mut [u32],
+) -> Run
     requires { Lent run lits.old ends.old }
     ensures { Lent result lits.new ends.new }
 {
@@ -181,7 +195,7 @@ fn end_line(line: Line, nums: &mut [i64], run: Run, lits: &mut [u32], ends: &mut
     if !numbers.good {
         return stopped(counted);
     }
-    answer(word, &nums[..n], counted, lits, ends)
+    answer(rt, word, &nums[..n], counted, lits, ends)
 }
 
 // The line that the next bytes continue, and the run up to it.
@@ -192,7 +206,14 @@ pub struct Part {
 }
 
 // The bytes at hand, up to their end, a line that cannot be read or an answer that cannot be written.
-pub fn run_part(s: &[u8], part: Part, nums: &mut [i64], lits: &mut [u32], ends: &mut [u32]) -> Part
+pub fn run_part<R: Print>(
+    rt: &R,
+    s: &[u8],
+    part: Part,
+    nums: &mut [i64],
+    lits: &mut [u32],
+    ends: &mut [u32],
+) -> Part
     requires { Lent part.run lits.old ends.old }
     ensures { Lent result.run lits.new ends.new }
 {
@@ -209,7 +230,7 @@ pub fn run_part(s: &[u8], part: Part, nums: &mut [i64], lits: &mut [u32], ends: 
                 run,
             };
         }
-        let next = end_line(fed_line, nums, run, lits, ends);
+        let next = end_line(rt, fed_line, nums, run, lits, ends);
         run = next;
         line = lines::line_start();
         if stops(run) {
@@ -240,22 +261,28 @@ pub fn start() -> Part
 }
 
 // The line that ends a run where it cannot be read. Answers whether all could be written.
-fn ended(run: Run) -> bool {
+fn ended<R: Print>(rt: &R, run: Run) -> bool {
     if !run.written || run.good {
         return run.written;
     }
-    print::bad_line(run.number)
+    print::bad_line(rt, run.number)
 }
 
 // The last line may lack its line feed. A line that cannot be read is named. Answers whether all could be written.
-pub fn finish(part: Part, nums: &mut [i64], lits: &mut [u32], ends: &mut [u32]) -> bool
+pub fn finish<R: Print>(
+    rt: &R,
+    part: Part,
+    nums: &mut [i64],
+    lits: &mut [u32],
+    ends: &mut [u32],
+) -> bool
     requires { Lent part.run lits.old ends.old }
 {
     let line = part.line;
     let run = part.run;
     if stops(run) || lines::is_empty(line) {
-        return ended(run);
+        return ended(rt, run);
     }
-    let last = end_line(line, nums, run, lits, ends);
-    ended(last)
+    let last = end_line(rt, line, nums, run, lits, ends);
+    ended(rt, last)
 }

@@ -33,15 +33,15 @@ fn bad(env: EncoderEnv) -> Answered {
 }
 
 // The literals of a clause handed back.
-fn put_part(status: u32, part: &[u32]) -> bool {
+fn put_part<R: Print>(rt: &R, status: u32, part: &[u32]) -> bool {
     if status != 0 {
         return true;
     }
-    print::text(b" :") && print::entries(part)
+    print::text(rt, b" :") && print::entries(rt, part)
 }
 
 // `clause K`
-fn clause(nums: &[i64], env: EncoderEnv, lits: &[u32], ends: &[u32]) -> Answered {
+fn clause<R: Print>(rt: &R, nums: &[i64], env: EncoderEnv, lits: &[u32], ends: &[u32]) -> Answered {
     if nums.len() != 1 {
         return bad(env);
     }
@@ -50,12 +50,15 @@ fn clause(nums: &[i64], env: EncoderEnv, lits: &[u32], ends: &[u32]) -> Answered
     };
     let mut status: u32 = 0;
     let part = encoder::clause(env, lits, ends, k, &mut status);
-    let written = print::answer(status, 0, env) && put_part(status, part) && print::text(b"\n");
+    let written = print::answer(rt, status, 0, env)
+        && put_part(rt, status, part)
+        && print::text(rt, b"\n");
     read_line(env, written)
 }
 
 // The call with these bytes and this lent slice, which is printed as the call left it.
-fn called(
+fn called<R: Print>(
+    rt: &R,
     reads: bool,
     env: EncoderEnv,
     lits: &[u32],
@@ -66,12 +69,13 @@ fn called(
     requires { length slice.old ≤ 131072 }
 {
     let c = script_calls::lent(reads, env, lits, ends, bytes, slice);
-    let written = print::answer(c.status, c.value, env) && print::bytes(slice);
-    read_line(env, written && print::text(b"\n"))
+    let written = print::answer(rt, c.status, c.value, env) && print::bytes(rt, slice);
+    read_line(env, written && print::text(rt, b"\n"))
 }
 
 // `LEN BYTE..`: the bytes go into `bytes`, and the first LEN of `slice` are lent.
-fn lent_of(
+fn lent_of<R: Print>(
+    rt: &R,
     reads: bool,
     nums: &[i64],
     env: EncoderEnv,
@@ -88,11 +92,12 @@ fn lent_of(
     }
     let n = given.len;
     let m = given.count;
-    called(reads, env, lits, ends, &bytes[..m], &mut slice[..n])
+    called(rt, reads, env, lits, ends, &bytes[..m], &mut slice[..n])
 }
 
 // The arrays' types say how long they are, so that the check does not count their entries.
-fn lent_in_arrays(
+fn lent_in_arrays<R: Print>(
+    rt: &R,
     reads: bool,
     nums: &[i64],
     env: EncoderEnv,
@@ -101,14 +106,21 @@ fn lent_in_arrays(
     bytes: &mut [u8; 65536],
     slice: &mut [u8; 131072],
 ) -> Answered {
-    lent_of(reads, nums, env, lits, ends, bytes, slice)
+    lent_of(rt, reads, nums, env, lits, ends, bytes, slice)
 }
 
 // `solution LEN BYTE..`, which reads a solver's answer, or `answer LEN BYTE..`, which prints an assignment. Each byte lent is 7 before.
-fn lent(reads: bool, nums: &[i64], env: EncoderEnv, lits: &[u32], ends: &[u32]) -> Answered {
+fn lent<R: Print>(
+    rt: &R,
+    reads: bool,
+    nums: &[i64],
+    env: EncoderEnv,
+    lits: &[u32],
+    ends: &[u32],
+) -> Answered {
     let mut bytes = [0u8; 65536];
     let mut slice = [7u8; 131072];
-    lent_in_arrays(reads, nums, env, lits, ends, &mut bytes, &mut slice)
+    lent_in_arrays(rt, reads, nums, env, lits, ends, &mut bytes, &mut slice)
 }
 
 // `job ..`
@@ -139,37 +151,43 @@ fn entry(nums: &[i64], env: EncoderEnv, store: &mut [u32]) -> Answered {
 }
 
 // `show`
-fn show(nums: &[i64], env: EncoderEnv, lits: &[u32], ends: &[u32]) -> Answered {
+fn show<R: Print>(rt: &R, nums: &[i64], env: EncoderEnv, lits: &[u32], ends: &[u32]) -> Answered {
     if nums.len() != 0 {
         return bad(env);
     }
-    let first = print::job(env) && print::text(b"lits") && print::entries(lits);
-    let written = first && print::text(b"\nends") && print::entries(ends) && print::text(b"\n");
+    let first = print::job(rt, env) && print::text(rt, b"lits") && print::entries(rt, lits);
+    let written = first
+        && print::text(rt, b"\nends")
+        && print::entries(rt, ends)
+        && print::text(rt, b"\n");
     read_line(env, written)
 }
 
 // The answer of a call is printed.
-fn printed(next: Next) -> Answered {
+fn printed<R: Print>(rt: &R, next: Next) -> Answered {
     let env = next.env;
     if !next.good {
         return bad(env);
     }
-    let written = print::answer(next.status, next.value, env) && print::text(b"\n");
+    let written = print::answer(rt, next.status, next.value, env) && print::text(rt, b"\n");
     read_line(env, written)
 }
 
 // The figures of a rule are printed behind a colon; the job stays.
-fn sized(s: Sized, env: EncoderEnv) -> Answered {
+fn sized<R: Print>(rt: &R, s: Sized, env: EncoderEnv) -> Answered {
     if !s.good {
         return bad(env);
     }
     let f = s.figures;
-    let written = print::answer(f.status, 0, env) && print::figures(f) && print::text(b"\n");
+    let written = print::answer(rt, f.status, 0, env)
+        && print::figures(rt, f)
+        && print::text(rt, b"\n");
     read_line(env, written)
 }
 
 // Every word but `stores`.
-pub fn answer(
+pub fn answer<R: Print>(
+    rt: &R,
     word: Word,
     nums: &[i64],
     env: EncoderEnv,
@@ -177,22 +195,22 @@ pub fn answer(
     ends: &mut [u32],
 ) -> Answered {
     if lines::is_word(word, b"read") {
-        return printed(script_calls::read(nums, env, lits, ends));
+        return printed(rt, script_calls::read(nums, env, lits, ends));
     }
     if lines::is_word(word, b"clause") {
-        return clause(nums, env, lits, ends);
+        return clause(rt, nums, env, lits, ends);
     }
     if lines::is_word(word, b"solution") {
-        return lent(true, nums, env, lits, ends);
+        return lent(rt, true, nums, env, lits, ends);
     }
     if lines::is_word(word, b"answer") {
-        return lent(false, nums, env, lits, ends);
+        return lent(rt, false, nums, env, lits, ends);
     }
     if lines::is_word(word, b"size") {
-        return sized(script_calls::size(nums, env), env);
+        return sized(rt, script_calls::size(nums, env), env);
     }
     if lines::is_word(word, b"size_mul") {
-        return sized(script_calls::size_mul(nums, env), env);
+        return sized(rt, script_calls::size_mul(nums, env), env);
     }
     if lines::is_word(word, b"job") {
         return job(nums, env);
@@ -204,7 +222,7 @@ pub fn answer(
         return entry(nums, env, ends);
     }
     if lines::is_word(word, b"show") {
-        return show(nums, env, lits, ends);
+        return show(rt, nums, env, lits, ends);
     }
-    printed(script_calls::call(word, nums, env, lits, ends))
+    printed(rt, script_calls::call(word, nums, env, lits, ends))
 }

@@ -6,61 +6,70 @@ ghost use Rattle.std.specs.Prelude.{length, ◌≤◌};
 ghost use Rattle.streams.specs.Input.{bytes_read};
 
 use job_values::Values;
-use libc::{STDERR_FILENO, STDOUT_FILENO};
+use std::env::{Env, FillError};
+use std::fs::Files;
+use std::{fs, io};
 use streams::Input;
 
 // One byte more than an answer may have, so that one too long is seen.
 const ANSWER: usize = 1048577;
 
-// Reads the file named by the first argument. A name longer than the buffer is handed over as an empty one, which no file has. The
-// descriptor is closed, so that it is not taken for standard input where that was closed.
-fn read_job(buf: &mut [u8]) -> Input
+// Whether there is a first argument.
+fn has_argument<R: Env>(rt: &R) -> bool {
+    !matches!(rt.arg(1, &mut []), Err(FillError::NotPresent))
+}
+
+// Reads the file named by the first argument. No file is found whose name is longer than the buffer, or is not text in UTF-8, which std
+// asks of a path. The file is closed at the end, so that it is not taken for standard input where that was closed.
+fn read_job<R: Env + Files>(rt: &R, buf: &mut [u8]) -> Input
     ensures { bytes_read result ≤ length buf.old }
 {
-    let mut name = io::buffer();
-    let size = os::arg(1, &mut name);
-    let fd = os::open_read(&name[..size]);
-    if fd < 0 {
+    let mut name = [0u8; 4096];
+    let Ok(size) = rt.arg(1, &mut name) else {
         return Input::Failed;
-    }
-    let read = streams::read_from(fd, buf);
-    libc::close(fd);
-    read
+    };
+    let Ok(path) = str::from_utf8(&name[..size]) else {
+        return Input::Failed;
+    };
+    let Ok(mut file) = fs::open(rt, path) else {
+        return Input::Failed;
+    };
+    streams::read_from(&mut file, buf)
 }
 
 // Prints the values that standard input gives to the job file in the first n bytes of `file`.
-fn print_values(file: &[u8], n: usize, answer: &mut [u8])
+fn print_values<R: io::Input + Print + Eprint>(rt: &R, file: &[u8], n: usize, answer: &mut [u8])
     requires { (8193 ≤ length file.now) × (n ≤ length file.now) × (1048577 ≤ length answer.old) }
 {
     let mut out = [0u8; 1440];
-    let Input::Bytes(m) = streams::read_input(answer) else {
-        streams::cannot_read();
+    let Input::Bytes(m) = streams::read_input(rt, answer) else {
+        streams::cannot_read(rt);
         return;
     };
     let Values::Text(size) = job_values::print_values(file, n, answer, m, &mut out) else {
-        io::write_all(STDERR_FILENO, b"the answer is longer than 1048576 bytes\n");
+        let _ = rt.eprintln("the answer is longer than 1048576 bytes");
         return;
     };
-    if !io::write_all(STDOUT_FILENO, &out[..size]) {
-        streams::cannot_write();
+    if rt.write_all(&out[..size]).is_err() {
+        streams::cannot_write(rt);
     }
 }
 
 // The array's type says how long it is, so that the check does not count its entries.
-fn run(answer: &mut [u8; ANSWER]) {
+fn run<R: Env + Files + io::Input + Print + Eprint>(rt: &R, answer: &mut [u8; ANSWER]) {
     let mut file = [0u8; 8193];
-    let Input::Bytes(n) = read_job(&mut file) else {
-        io::write_all(STDERR_FILENO, b"cannot read the job file\n");
+    let Input::Bytes(n) = read_job(rt, &mut file) else {
+        let _ = rt.eprintln("cannot read the job file");
         return;
     };
-    print_values(&file, n, answer);
+    print_values(rt, &file, n, answer);
 }
 
-fn main() {
-    if os::arg_count() < 2 {
-        io::write_all(STDERR_FILENO, b"usage: values FILE\n");
+fn main(rt: HostRuntime) {
+    if !has_argument(&rt) {
+        let _ = rt.eprintln("usage: values FILE");
         return;
     }
     let mut answer = [0u8; ANSWER];
-    run(&mut answer);
+    run(&rt, &mut answer);
 }
