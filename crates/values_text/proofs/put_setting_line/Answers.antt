@@ -1,0 +1,10 @@
+-- `values_text::put_setting_line` meets its contract.
+use mir.Syntax.{w32}
+use mir.ValLaws.{to_z-of_z}
+use Rattle.values_text.proofs.Printing.{wrote_setting}
+use Rattle.values_text.proofs.put_setting_line.Goals as goal
+
+pub returns : goal.returns
+returns c =
+    let a = c.args in
+    wrote_setting _ a.i a.z (to_z-of_z w32 a.z c.ranges.z) c.put_bytes-to.ensures c.put_decimal-to.ensures c.put-to.ensures c.put_integer-to.ensures c.put.ensures
