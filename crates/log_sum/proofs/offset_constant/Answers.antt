@@ -1,6 +1,6 @@
 -- `log_sum::offset_constant` meets its contract.
 use mathlib.Core.Path.{◌≡◌, ◌∙◌, ap, sym}
-use Prim.Native.Nat.{ℕ, ◌+◌, ◌-◌, ◌*◌, ◌≤◌, ◌<◌}
+use Prim.Native.Nat.{ℕ, ◌+◌, ◌*◌, ◌≤◌, ◌<◌}
 use native.Mathlib.Omega.{arith}
 use lib.IntN.{◌*ℤ◌, ◌+ℤ◌, pos, ℤ}
 use lib.ListN.{get_or, length}
@@ -35,10 +35,10 @@ loop-i-preserved c =
     let r = to_z-of_z w32 w.result (record { sfits = w.type_inv }) in
     let x = c.setting_at-x in
     let number : ℕ → ℤ = λ j. (int_map_of c.args.encodings j).offset in
-    let e : w.result ≡ (get_or c.args.terms.now (2 * l.i + 1) (pos 0) *ℤ number (up (get_or c.args.terms.now (2 * l.i) (pos 0)))) +ℤ to_z w32 l.sum =
-    w.ensures.0 ∙ (λ i. (coef-is (goal.at.loop-i-preserved c).After-coef_at i *ℤ offset-is (goal.at.loop-i-preserved c).Start x.result x.ensures.1 i) +ℤ to_z w32 l.sum) ∙ (λ i. (get_or c.args.terms.now (2 * l.i + 1) (pos 0) *ℤ number (x.ensures.0 i)) +ℤ to_z w32 l.sum) in
+    let e : w.result ≡ (get_or c.args.terms.now (2 * l.i + 1) (pos 0) *ℤ number (up (get_or c.args.terms.now (2 * l.i) (pos 0)))) +ℤ (to_z w32 l.sum-bits) =
+    w.ensures.0 ∙ (λ i. (coef-is (goal.at.loop-i-preserved c).After-coef_at i *ℤ offset-is (goal.at.loop-i-preserved c).Start x.result x.ensures.1 i) +ℤ (to_z w32 l.sum-bits)) ∙ (λ i. (get_or c.args.terms.now (2 * l.i + 1) (pos 0) *ℤ number (x.ensures.0 i)) +ℤ (to_z w32 l.sum-bits)) in
     rw r (
-      sum_turn number _ c.args.terms.now l.i (to_z w32 l.sum) (in_list (goal.at.loop-i-preserved c).In-loop-i) l.invariant.0 ∙ ap (λ (z : ℤ). linear_sum number z (terms_from c.args.terms.now (l.i + 1))) (sym e),
+      sum_turn number _ c.args.terms.now l.i (to_z w32 l.sum-bits) (in_list (goal.at.loop-i-preserved c).In-loop-i) l.invariant.0 ∙ ap (λ (z : ℤ). linear_sum number z (terms_from c.args.terms.now (l.i + 1))) (sym e),
       l.invariant.1,
       omega (arith, k),
       omega (arith, l.invariant.3, w.ensures.1),
@@ -54,7 +54,7 @@ returns c =
     let u : up (to_z w32 (of_z w32 c.args.constant)) ≤ 1000001 = rw q p.0 in
     let d : down (to_z w32 (of_z w32 c.args.constant)) ≤ 1000001 = rw q p.1 in
     let none = terms_done c.args.terms.now l.i (omega (arith, l.invariant.1, c.loop-i-test.false)) in (
-      sym (ap (λ (z : ℤ). linear_sum number z (terms_of c.args.terms.now)) (sym q) ∙ l.invariant.0 ∙ ap (linear_sum number (to_z w32 l.sum)) none),
+      sym (ap (λ (z : ℤ). linear_sum number z (terms_of c.args.terms.now)) (sym q) ∙ l.invariant.0 ∙ ap (linear_sum number (to_z w32 l.sum-bits)) none),
       omega (arith, l.invariant, u, c.requires.terms_ready.few),
       omega (arith, l.invariant, d, c.requires.terms_ready.few),
     )

@@ -1,6 +1,6 @@
 -- `log_sum::term_lits` meets its contract.
 use mathlib.Core.Path.{refl}
-use Prim.Native.Nat.{◌-◌, ◌<◌}
+use Prim.Native.Nat.{◌<◌}
 use native.Mathlib.Omega.{arith}
 use lib.Dec.{lit<}
 use Rattle.sat.specs.declared.Lit.{Lit}
