@@ -1,6 +1,6 @@
 /* Reads what a solver answers, on standard input, to the job file named: prints how many variables are true, or that there is no assignment, or the
-   refusal; then prints the assignment as an answer again and reads that back. Build, after `rt staticlib sumirewha`:
-     cc -O2 -Iinclude examples/answer.c -Ltarget/staticlib -lsumirewha -o target/answer */
+   refusal; then prints the assignment as an answer again and reads that back. Build, after `rt lib` in crates/sumirewha:
+     cc -O2 -Iinclude examples/answer.c -Lcrates/sumirewha/out -lsumirewha -o target/answer */
 #include "sumirewha.h"
 
 #include <stdio.h>

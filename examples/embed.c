@@ -1,6 +1,6 @@
 /* Encodes the job file on standard input by the static library: prints what it takes, its shortest clause, and the first line of its text.
-   Build, after `rt staticlib sumirewha`:
-     cc -O2 -Iinclude examples/embed.c -Ltarget/staticlib -lsumirewha -o target/embed */
+   Build, after `rt lib` in crates/sumirewha:
+     cc -O2 -Iinclude examples/embed.c -Lcrates/sumirewha/out -lsumirewha -o target/embed */
 #include "sumirewha.h"
 
 #include <stdio.h>

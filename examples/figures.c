@@ -2,8 +2,8 @@
    NUMBER is 0 if there are figures, F is how many fields the file has, and V, C and L are the variables, clauses and literals that the rule would
    add to it, whatever the stores hold. After a refusal NUMBER says why, V, C and L are 0, and F is the field of the file that is refused, if one is.
    Without paths, any number of pairs are read from standard input, each behind two lengths of four bytes, high byte first, and each gets a line.
-   Build, after `rt staticlib sumirewha`:
-     cc -O2 -Iinclude examples/figures.c -Ltarget/staticlib -lsumirewha -o target/figures */
+   Build, after `rt lib` in crates/sumirewha:
+     cc -O2 -Iinclude examples/figures.c -Lcrates/sumirewha/out -lsumirewha -o target/figures */
 #include "sumirewha.h"
 
 #include <stdio.h>

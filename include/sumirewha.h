@@ -1,6 +1,6 @@
 /* Sumirewha: job files turned into SAT clauses. README.md describes the job file and lists the refusal numbers.
 
-   The archive target/staticlib/libsumirewha.a, made by `rt staticlib sumirewha`, is for x86-64 Linux.
+   The archive crates/sumirewha/out/libsumirewha.a, made by `rt lib` in crates/sumirewha, is for x86-64 Linux.
 
    Every array is lent by the caller as a pointer and a length in entries. It has to have that many entries, the pointer may not be null,
    and arrays of one call may not overlap. Nothing is allocated and nothing is kept between calls.

@@ -17,7 +17,7 @@ from driver import Driver
 from jobfiles import drawn_files
 from judge import add_driver_option
 
-CNF = Path(__file__).resolve().parent.parent / "target" / "bin" / "cnf"
+CNF = Path(__file__).resolve().parent.parent / "crates" / "cnf" / "out" / "cnf"
 
 
 def add_file_options(parser, seeds=None):

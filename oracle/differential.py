@@ -24,7 +24,7 @@ from foretold import DIFFER
 from judge import add_driver_option
 from scripts import WEIGHTS, Generator
 
-REPLAY = Path(__file__).resolve().parent.parent / "target" / "bin" / "replay"
+REPLAY = Path(__file__).resolve().parent.parent / "crates" / "replay" / "out" / "replay"
 
 
 def script_of(driver, kind, seed, count, without):

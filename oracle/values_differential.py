@@ -28,7 +28,7 @@ from jobfiles import drawn_files
 from readings import bit_turned
 from sought import sought
 
-VALUES = Path(__file__).resolve().parent.parent / "target" / "bin" / "values"
+VALUES = Path(__file__).resolve().parent.parent / "crates" / "values" / "out" / "values"
 PER_FILE = 3
 SATISFYING = 2
 LIMIT = 1_000

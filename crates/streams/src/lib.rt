@@ -3,7 +3,7 @@
 #![tactic(auto)]
 
 ghost use Rattle.std.specs.Prelude.{length, ◌≤◌};
-ghost use Rattle.streams.specs.Input.{bytes_read};
+ghost use Rattle.streams.specs.Input.{Took, bytes_read};
 
 use std::io;
 use std::io::Read;
@@ -25,7 +25,8 @@ pub fn read_input<R: io::Input>(rt: &R, buf: &mut [u8]) -> Input
 
 // The same for what a reader gives.
 pub fn read_from<R: Read>(reader: &mut R, buf: &mut [u8]) -> Input
-    ensures { bytes_read result ≤ length buf.old }
+    ensures within { bytes_read result ≤ length buf.old }
+    ensures took { Took result (R.remaining reader.old) (R.remaining reader.new) buf.new }
 {
     let mut n: usize = 0;
     while n < buf.len() {

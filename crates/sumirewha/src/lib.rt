@@ -1,5 +1,5 @@
 // A job file's run, its text, a solver's answer to it and the figures of one more field, for callers in C and Rust
-// (`rt staticlib sumirewha`): a slice is a pointer and a length.
+// (`rt lib` makes the archive out/libsumirewha.a): a slice is a pointer and a length.
 #![tactic(auto)]
 
 ghost use Rattle.std.specs.Prelude.{◌≡◌};

@@ -1,0 +1,37 @@
+-- `terms_size::equation_size` meets its contract.
+use Prim.Native.Nat.{◌+◌, ◌≤◌, ℕ}
+use lib.ListN.{take}
+use mathlib.Core.Path.{◌∙◌, ◌≡◌, ap}
+use native.Mathlib.Omega.{arith}
+use Rattle.norm_csp.specs.NormOp.{eq}
+use Rattle.log_encoding.specs.AdderSize.{eq_reached, greatest_height}
+use Rattle.log_encoding.specs.LinearSize.{linear_reached}
+use Rattle.log_counts.specs.Counted.{shapes_of}
+use Rattle.log_counts.proofs.Reached.{taken}
+use Rattle.terms_size.proofs.Equates.{eq_reaches, equation_measured}
+use Rattle.terms_size.proofs.Measuring.{measured_tall}
+use Rattle.terms_size.proofs.equation_size.Goals as goal
+use Rattle.terms_size.proofs.equation_size.Goals.{After-eq_greatest_height, After-excess-y, Else-eq_greatest_height-gt12}
+
+-- the columns reached
+reaches : (c : After-excess-y) → let k = c.eq_counts-c.result in
+    eq_reached (take k.width k.counts) c.excess-x.result c.excess-y.result 0 ≡ linear_reached eq (shapes_of c.args.ts c.args.n) c.args.a c.args.b
+reaches c =
+    eq_reaches (shapes_of c.args.ts c.args.n) c.args.a c.args.b _ c.excess-x.result c.excess-y.result _
+    (taken c.eq_counts-c.ensures) (ap (λ (n : ℕ). c.args.b + n) c.negated_bits.ensures.0) c.excess-x.ensures c.excess-y.ensures
+
+height-is : (c : After-eq_greatest_height) → c.eq_greatest_height.result ≡ greatest_height (linear_reached eq (shapes_of c.args.ts c.args.n) c.args.a c.args.b)
+height-is c = c.eq_greatest_height.ensures ∙ ap greatest_height (reaches c.before)
+
+low-height : (c : Else-eq_greatest_height-gt12) → greatest_height (linear_reached eq (shapes_of c.args.ts c.args.n) c.args.a c.args.b) ≤ 12
+low-height c = omega (arith, height-is c.before, c.if-eq_greatest_height-gt12.false)
+
+pub returns-then-eq_greatest_height-gt12 : goal.returns-then-eq_greatest_height-gt12
+returns-then-eq_greatest_height-gt12 c =
+    rw c.too_tall.ensures (measured_tall 1 _ _ (omega (arith, height-is (goal.at.returns-then-eq_greatest_height-gt12 c).After-eq_greatest_height, c.if-eq_greatest_height-gt12.true)))
+
+pub returns : goal.returns
+returns c =
+    equation_measured (shapes_of c.args.ts c.args.n) c.args.a c.args.b _ c.excess-x.result c.excess-y.result _
+    (taken c.eq_counts-c.ensures) (ap (λ (n : ℕ). c.args.b + n) c.negated_bits.ensures.0) c.excess-x.ensures c.excess-y.ensures
+    c.eq_size.result (low-height (goal.at.returns c).Else-eq_greatest_height-gt12) c.eq_size.ensures
