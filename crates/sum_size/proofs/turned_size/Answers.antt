@@ -1,0 +1,19 @@
+-- `sum_size::turned_size` meets its contract.
+use mathlib.Core.Path.{◌≡◌}
+use mir.Syntax.{w32}
+use mir.Val.{of_z, to_z}
+use mir.ValLaws.{to_z-of_z}
+use Rattle.norm_csp.specs.Rules.{cmp_op_of}
+use Rattle.log_turned.specs.Turning.{Turns}
+use Rattle.sum_size.proofs.turned_size.Goals as goal
+use Rattle.sum_size.proofs.turned_size.Goals.{After-turned-t, Start}
+
+constant-is : (s : Start) → to_z w32 (of_z w32 s.args.constant) ≡ s.args.constant
+constant-is s = to_z-of_z w32 s.args.constant s.ranges.constant
+
+turns : (c : After-turned-t) → let a = c.args in Turns (cmp_op_of a.op) a.constant a.terms.now c.turned-t.result
+turns c = rw (constant-is c.before) at c.turned-t.ensures
+
+pub linear_size-requires-clause-terms_ready : goal.linear_size-requires-clause-terms_ready
+linear_size-requires-clause-terms_ready c =
+    let t = turns (goal.at.linear_size-requires-clause-terms_ready c).After-turned-t in t.ready c.args.encodings c.requires.terms_ready
