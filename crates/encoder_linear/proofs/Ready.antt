@@ -7,7 +7,6 @@ use lib.IntN.{ℤ}
 use Rattle.clause_set.specs.declared.Counts.{Counts}
 use Rattle.log_sum.specs.Terms.{TermsReady}
 use Rattle.encoder_env.specs.declared.EncoderEnv.{EncoderEnv}
-use Rattle.encoder_env.specs.WellFormed.{lits_fit}
 use Rattle.encoder_env.proofs.Kept.{all_at}
 use Rattle.encoder_linear.specs.Ready.{SumReady}
 use Rattle.encoder_answer.specs.Adding.{counts_of, grown}

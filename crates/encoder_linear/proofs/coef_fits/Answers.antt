@@ -9,14 +9,7 @@ use mir.Syntax.{w32}
 use mir.Val.{SFits, of_z}
 use Rattle.encoder_env.specs.WellFormed.{eqz, lez}
 use Rattle.encoder_env.proofs.Tests.{eq_no, eq_yes, signed_tests}
-use Rattle.encoder_linear.proofs.coef_fits.Statement.{statement}
-use Rattle.encoder_linear.proofs.coef_fits.Tie as tie
-
-returns : tie.Need-returns
-returns c = search (signed_tests, rules)
-
-returns-2 : tie.Need-returns-2
-returns-2 c = search (signed_tests, rules)
+use Rattle.encoder_linear.proofs.coef_fits.Goals as goal
 
 -- the code's test of 0
 zero_test : (k : ℤ) → SFits w32 k → SFits w32 (pos 0) → eqb (of_z w32 k) 0 ≡ eqz k (pos 0)
@@ -26,12 +19,15 @@ zero_test k f g = go (eqb (of_z w32 k) 0) refl
     go true e = sym (eq_yes f g (eqb-true (of_z w32 k) 0 e))
     go false e = sym (eq_no k (pos 0) (eqb-false (of_z w32 k) 0 e))
 
-returns-3 : tie.Need-returns-3
-returns-3 c =
-    let k = c.before.before.args.k in
+pub returns-then-k-ltminus255 : goal.returns-then-k-ltminus255
+returns-then-k-ltminus255 c = search (signed_tests, rules)
+
+pub returns-then-k-gt255 : goal.returns-then-k-gt255
+returns-then-k-gt255 c = search (signed_tests, rules)
+
+pub returns : goal.returns
+returns c =
+    let k = c.args.k in
     let low : lez (negsuc 254) k ≡ true = search (signed_tests, rules) in
     let high : lez k (pos 255) ≡ true = search (signed_tests, rules) in
-    rw (low, high) (ap not (zero_test k c.before.before.ranges.k (record { sfits = lit< tt })))
-
-pub coef-fits-spec : {M : Type 1} → statement M
-coef-fits-spec = tie.close (tie.spec returns returns-2 returns-3)
+    rw (low, high) (ap not (zero_test k c.ranges.k (record { sfits = lit< tt })))
