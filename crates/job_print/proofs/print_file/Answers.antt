@@ -12,13 +12,13 @@ returns-then-status-ne0 c =
 
 pub print_dimacs-requires : goal.print_dimacs-requires
 print_dimacs-requires c =
-    let a = c.before.args in
-    let g = c.run in
-    store_within a.bytes.now a.lits.now a.ends.now g.result _ _ g.ensures c.if1.false
+    let a = c.args in
+    let g = c.run-a in
+    store_within a.bytes.now a.lits.now a.ends.now g.result _ _ g.ensures c.if-status-ne0.false
 
 pub returns : goal.returns
 returns c =
-    let a = c.before.args in
-    let g = c.run in
+    let a = c.args in
+    let g = c.run-a in
     let f = c.print_dimacs in
-    clauses_printed a.bytes.now a.lits.now a.ends.now g.result _ _ g.ensures (search rules) (search rules) a.out.now f.new.out f.result c.if1.false f.ensures
+    clauses_printed a.bytes.now a.lits.now a.ends.now g.result _ _ g.ensures (search rules) (search rules) a.out.now f.new.out f.result c.if-status-ne0.false f.ensures

@@ -6,6 +6,5 @@ use Rattle.job_print.proofs.print_job.Goals as goal
 
 pub returns : goal.returns
 returns c =
-    let s = ?None in
     let f = c.print_file in
-    job_printed _ s.args.out.now _ f.result (omega (arith, s.requires)) (search rules) f.ensures
+    job_printed _ c.args.out.now _ f.result (omega (arith, c.requires)) (search rules) f.ensures
