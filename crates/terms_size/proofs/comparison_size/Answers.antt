@@ -1,5 +1,4 @@
 -- `terms_size::comparison_size` meets its contract.
--- the columns of either sign
 use mathlib.Core.Bool.{false, true}
 use mathlib.Core.List.{List, ◌++◌}
 use mathlib.Core.Path.{◌≡◌, subst}
@@ -14,6 +13,7 @@ use Rattle.terms_size.proofs.Measuring.{measured_tall}
 use Rattle.terms_size.proofs.comparison_size.Goals as goal
 use Rattle.terms_size.proofs.comparison_size.Goals.{After-higher, Start}
 
+-- the columns of either sign
 abbrev positive : Start → List Reached
 positive s = sign_reached false (shapes_of s.args.ts s.args.n) s.args.a
 
