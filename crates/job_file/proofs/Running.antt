@@ -1,11 +1,8 @@
 -- Laws of the loop over the fields: what is left of the run gives the whole.
 use Prim.Native.Nat.{◌+◌, ◌-◌, ◌<◌, ◌≤◌, ℕ}
 use native.Mathlib.Omega.{arith}
-use mathlib.Core.Logic.{⊎_elim}
 use mathlib.Core.Path.{◌∙◌, ◌≡◌, ap, refl, sym}
-use mathlib.Core.List.{List, [], ◌∷◌}
-use denote.Enum.Declared.{tag_of}
-use types.Run.{OneOf}
+use mathlib.Core.List.{List}
 use lib.ListN.{drop, length, take}
 use borrow.Author.Tests.{eq-eqb, le-leb, lt-leb, ne_eqb}
 use Rattle.encoder_env.specs.declared.EncoderEnv.{EncoderEnv}
@@ -16,7 +13,6 @@ use Rattle.job_fields.specs.Fields.{field, fields, fields_of}
 use Rattle.job_fields.specs.Places.{field_at, fields_from, number_at}
 use Rattle.job_fields.specs.declared.fields.FieldAt.{FieldAt}
 use Rattle.job_fields.specs.declared.fields.FieldAt.TheVariants.{Broken, Contents, End}
-use Rattle.job_fields.specs.contracts.fields.FieldAt.{the_type}
 use Rattle.job_fields.proofs.Places.{Within, fields_at}
 use Rattle.job_file.specs.Run.{JobRun, ended, field_outcome, run_fields, run_file, state}
 use Rattle.job_file.proofs.Refused.{field_unchanged}
@@ -28,8 +24,8 @@ Ends End = Unit
 Ends Broken = Unit
 
 -- so it is where the code's match goes on without contents
-pub told : (r : FieldAt) → OneOf (1 ∷ 2 ∷ []) (tag_of the_type r) → Ends r
-told (Contents tag begin end) h = ⊎_elim (λ (e : 0 ≡ 1). omega arith) (λ (e : 0 ≡ 2). omega arith) h
+pub told : (r : FieldAt) → ((tag begin end : ℕ) → r ≡ Contents tag begin end → ⊥) → Ends r
+told (Contents tag begin end) h = absurd (h tag begin end refl)
 told End h = tt
 told Broken h = tt
 

@@ -1,0 +1,7 @@
+-- `job_file::calls::open` meets its contract.
+use Rattle.job_file.specs.Calls.{switches_in}
+use Rattle.job_file.proofs.calls.open.Goals as goal
+
+pub returns : goal.returns
+unfolding switches_in
+returns c = rw (← c.wide-switches.ensures.0) c.«open».ensures
