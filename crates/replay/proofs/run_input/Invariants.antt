@@ -6,10 +6,10 @@ use Rattle.replay.proofs.run_input.Given as goal
 abbrev pub invariant-loop-turns : goal.invariant-loop-turns
 invariant-loop-turns g l =
     (length l.lits ≡ length l.initial.lits)
-        × (length l.ends ≡ length l.initial.ends)
-        × (length l.nums ≡ length l.initial.nums)
-        × (length l.input ≡ length l.initial.input)
-        × Lent l.part.run l.lits l.ends
+    × (length l.ends ≡ length l.initial.ends)
+    × (length l.nums ≡ length l.initial.nums)
+    × (length l.input ≡ length l.initial.input)
+    × Lent l.part.run l.lits l.ends
 
 abbrev pub decreases-loop-turns : goal.decreases-loop-turns
 decreases-loop-turns g l = l.turns

@@ -5,7 +5,7 @@ use lib.ListN.{length}
 use Rattle.replay_lines.proofs.run_lines.Given as goal
 
 abbrev pub invariant-loop-at : goal.invariant-loop-at
-invariant-loop-at g l = 
+invariant-loop-at g l =
     (length l.nums ≡ length l.initial.nums) × (length l.lits ≡ length l.initial.lits) × (length l.ends ≡ length l.initial.ends)
 
 abbrev pub decreases-loop-at : goal.decreases-loop-at

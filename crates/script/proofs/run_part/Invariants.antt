@@ -6,11 +6,11 @@ use Rattle.script.specs.Run.{Lent}
 use Rattle.script.proofs.run_part.Given as goal
 
 abbrev pub invariant-loop-at : goal.invariant-loop-at
-invariant-loop-at g l = 
+invariant-loop-at g l =
     (length l.nums ≡ length l.initial.nums)
-        × (length l.lits ≡ length l.initial.lits)
-        × (length l.ends ≡ length l.initial.ends)
-        × Lent l.run l.lits l.ends
+    × (length l.lits ≡ length l.initial.lits)
+    × (length l.ends ≡ length l.initial.ends)
+    × Lent l.run l.lits l.ends
 
 abbrev pub decreases-loop-at : goal.decreases-loop-at
 decreases-loop-at g l = length l.s - l.at

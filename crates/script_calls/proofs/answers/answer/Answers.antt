@@ -10,7 +10,7 @@ overflow_cast-result c =
     let a = c.args in
     let t = c.in-Text in
     let fits =
-        text_fits a.env (length a.lits.now) (length a.ends.now) a.assignment.now (length a.slice.now) t.size
-        (sym t.is ∙ c.print_answer-printed.ensures.answer)
+    text_fits a.env (length a.lits.now) (length a.ends.now) a.assignment.now (length a.slice.now) t.size
+    (sym t.is ∙ c.print_answer-printed.ensures.answer)
     in
     search rules
