@@ -40,27 +40,22 @@ KINDS = {
 OPERATIONS = [name.lower() for name in NAMES]
 PER_FILE = 100
 HEAD = """-- Definitions against the judge.
-use mathlib.Core.List.{List, [], _∷_}
-use mathlib.Core.Path.{_≡_, refl}
-use Prim.Native.Nat.{ℕ}
-use lib.IntN.{negsuc, pos}
-use lib.ListN.{getD}
-use Rattle·sat.specs.Encoded.{EncodedRule}
-use Rattle·sat.specs.Lit.{neg}
-use Rattle·norm_csp.specs.Domain.{binary, list, range}
-use Rattle·norm_csp.specs.Rules.{LinearTerm, eq, ge, gt, le, lt, ne}
-use Rattle·log_encoding.specs.EncodeVarLog.{EncodedVar, encode-var-log}
-use Rattle·log_encoding.specs.LogEncoding.{LogEncoding, no-encoding}
-use Rattle·log_encoding.specs.Enumerate.{bounded, enumerate}
-use Rattle·log_encoding.specs.Adder2.{eq-column}
-use Rattle·log_encoding.specs.Column.{column}
-use Rattle·log_encoding.specs.EncodeMulLog.{encode-mul-log}
-use mathlib.Core.Bool.{cond}
-use lib.Dec.{ltb}
-use Rattle·log_encoding.specs.AdderSize.{Reached, height}
-use Rattle·log_encoding.specs.VarSize.{setting-shape}
-use Rattle·log_encoding.specs.Turned.{encode-turned, turned-reached}
-use Rattle·log_encoding.specs.MulSize.{mul-reached}
+use Rattle.std.specs.Prelude.{◌≡◌, ℕ, negsuc, pos, List, [], ◌∷◌, cond, ltb, get_or}
+use Rattle.std.proofs.Common.{refl}
+use Rattle.sat.specs.Encoded.{EncodedRule}
+use Rattle.sat.specs.Lit.{neg}
+use Rattle.norm_csp.specs.Domain.{binary, list, range}
+use Rattle.norm_csp.specs.Rules.{LinearTerm, eq, ge, gt, le, lt, ne}
+use Rattle.log_encoding.specs.EncodeVarLog.{EncodedVar, encode_var_log}
+use Rattle.log_encoding.specs.LogEncoding.{LogEncoding, no_encoding}
+use Rattle.log_encoding.specs.Enumerate.{bounded, enumerate}
+use Rattle.log_encoding.specs.Adder2.{eq_column}
+use Rattle.log_encoding.specs.Column.{column}
+use Rattle.log_encoding.specs.EncodeMulLog.{encode_mul_log}
+use Rattle.log_encoding.specs.AdderSize.{Reached, height}
+use Rattle.log_encoding.specs.VarSize.{setting_shape}
+use Rattle.log_encoding.specs.Turned.{encode_turned, turned_reached}
+use Rattle.log_encoding.specs.MulSize.{mul_reached}
 
 -- heights up to the first above 12
 abbrev tested : List Reached → List ℕ
@@ -93,17 +88,17 @@ def representation(word, ints):
 
 
 def int_map(settings):
-    return f"(λ i. getD {listed(map(encoding, settings))} i no-encoding)"
+    return f"(λ i. get_or {listed(map(encoding, settings))} i no_encoding)"
 
 
 def expression(word, ints, settings, variables):
     """The definition applied to the call's arguments, and its type."""
     if word in ("range", "list", "binary"):
-        return f"encode-var-log {representation(word, ints)} {variables}", "EncodedVar"
+        return f"encode_var_log {representation(word, ints)} {variables}", "EncodedVar"
     if word == "mul":
         x, y, m = ints
-        return f"encode-mul-log {int_map(settings)} {x} {y} {m} {variables}", "EncodedRule"
-    return f"encode-turned {int_map(settings)} {sum_of(ints)} {variables}", "EncodedRule"
+        return f"encode_mul_log {int_map(settings)} {x} {y} {m} {variables}", "EncodedRule"
+    return f"encode_turned {int_map(settings)} {sum_of(ints)} {variables}", "EncodedRule"
 
 
 def sum_of(ints):
@@ -117,10 +112,10 @@ def heights(word, ints, settings):
     """The heights of the columns reached, by definition."""
     known = listed(map(encoding, settings))
     if word == "mul":
-        shapes = " ".join(f"(setting-shape (getD {known} {i} no-encoding))" for i in ints)
-        return f"tested (mul-reached {shapes})"
-    shapes = f"(λ i. setting-shape (getD {known} i no-encoding))"
-    return f"tested (turned-reached {shapes} {sum_of(ints)})"
+        shapes = " ".join(f"(setting_shape (get_or {known} {i} no_encoding))" for i in ints)
+        return f"tested (mul_reached {shapes})"
+    shapes = f"(λ i. setting_shape (get_or {known} i no_encoding))"
+    return f"tested (turned_reached {shapes} {sum_of(ints)})"
 
 
 def answer(word, made, clauses, variables):
@@ -193,21 +188,21 @@ def examples(driver, seed, calls, most):
 def write_crate(scratch, made):
     """A copy of the crates, and one more that holds the examples."""
     shutil.rmtree(scratch, ignore_errors=True)
-    shutil.copytree(HERE.parent / "crates", scratch / "crates")
+    shutil.copytree(HERE.parent / "crates", scratch / "crates", ignore=shutil.ignore_patterns("out"))
     names = [line for line in (HERE.parent / "crates.txt").read_text().splitlines() if line]
     deps = "arithmetic sat norm_csp log_encoding"
     (scratch / "crates.txt").write_text("\n".join(names + [f"compared: {deps}"]) + "\n")
     crate = scratch / "crates" / "compared"
     for folder in ("src", "proofs"):
         (crate / folder).mkdir(parents=True)
-    (crate / "src" / "lib.rt").write_text("// Examples only.\n")
+    (crate / "src" / "lib.rt").write_text("// Examples only.\n#![tactic(auto)]\n")
     files = [made[i : i + PER_FILE] for i in range(0, len(made), PER_FILE)]
     (crate / "proofs" / "Lib.antt").write_text("".join(f"pub mod E{i}\n" for i in range(len(files))))
     for i, part in enumerate(files):
         text = [HEAD]
         for j, (of, left, right) in enumerate(part):
             text.append(
-                f"e{j} : _≡_ {{A = {of}}} ({left}) ({right})\nunfolding neg column eq-column enumerate bounded\ne{j} = refl\n"
+                f"e{j} : ◌≡◌ {{A = {of}}} ({left}) ({right})\nunfolding neg column eq_column enumerate bounded\ne{j} = refl\n"
             )
         (crate / "proofs" / f"E{i}.antt").write_text("\n".join(text))
 
@@ -225,7 +220,7 @@ def main():
     driver.close()
     write_crate(options.scratch, made)
     print(f"seed {options.seed}:", ", ".join(f"{kind} {n}" for kind, n in counts.items()), flush=True)
-    done = subprocess.run(["rt", "check", "compared"], cwd=options.scratch)
+    done = subprocess.run(["rt", "check"], cwd=options.scratch / "crates" / "compared")
     sys.exit(done.returncode)
 
 
