@@ -43,7 +43,9 @@ impl ClauseSet<'_> {
     // Adds a clause.
     pub fn push(&mut self, clause: &[Lit])
         requires fits { Fits self.old.base self.old.used (map num clause.now ∷ []) }
-        ensures { Added self.old (map num clause.now ∷ []) self.new }
+        ensures added { Added self.old (map num clause.now ∷ []) self.new }
+        ensures lits { self.new.used.lits ≡ self.old.used.lits + length clause.now }
+        ensures clauses { self.new.used.clauses ≡ self.old.used.clauses + 1 }
     {
         let from = self.used.lits;
         let n = clause.len();
