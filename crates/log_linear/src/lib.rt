@@ -1,7 +1,7 @@
 // The comparison of two sums' bits, after `encode_linear_log_from_encodings` of log.rs. A call that is lent no entries only counts.
 #![tactic(auto)]
 
-ghost use Rattle.std.specs.Prelude.{◌≡◌, [], ◌+◌, ◌-◌, ◌^◌, ◌≤◌, ◌<◌, length, map};
+ghost use Rattle.std.specs.Prelude.{◌≡◌, [], ◌+◌, ◌-◌, ◌^◌, ◌≤◌, ◌<◌, drop, length, map};
 ghost use Rattle.sat.specs.LitArray.{num};
 ghost use Rattle.clause_set.specs.Stores.{Added, AddedRule, Below};
 ghost use Rattle.log_encoding.specs.Compare.{first_gate, ne_bits, none_of, sub_gate, xor_gate};
@@ -25,6 +25,14 @@ impl Bits {
         ensures { (map num result.now ≡ bits_of self.now) × (length result.now ≡ self.now.len) }
     {
         &self.lits[..self.len]
+    }
+
+    // Those from place k on.
+    pub fn rest(&self, k: usize) -> &[Lit]
+        requires { self.now.len ≤ 32 }
+        ensures { (map num result.now ≡ drop k (bits_of self.now)) × (length result.now ≤ 32) }
+    {
+        &self.as_slice()[k.min(self.len)..]
     }
 }
 
