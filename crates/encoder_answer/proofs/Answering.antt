@@ -17,7 +17,7 @@ use Rattle.encoder_env.specs.declared.EncoderEnv.{EncoderEnv}
 use Rattle.encoder_env.proofs.Kept.{kept}
 use Rattle.encoder_answer.specs.declared.Written.{Written}
 use Rattle.encoder_answer.specs.Adding.{adding_status, grown, job_with, space_checks, space_for}
-use Rattle.encoder_answer.specs.Call.{Addition, Fits, JobAddition, JobChecks, Settled, Wrote, call_outcome, job_added, job_after, with_setting}
+use Rattle.encoder_answer.specs.Call.{Addition, Fits, JobAddition, JobChecks, Settled, CallWrote, call_outcome, job_added, job_after, with_setting}
 use Rattle.encoder_answer.specs.Outcome.{Answers, Check, adds, status_of}
 use Rattle.encoder_answer.proofs.Adding.{accepted}
 use Rattle.encoder_answer.proofs.Statuses.{accepts, refuses, stops, then_rest, number_some}
@@ -52,7 +52,7 @@ module _ (asks : JobChecks) (gives : JobAddition) (settles : Settled asks gives)
   Answered r = Answers (call_outcome asks gives env lits ends) (adds env r)
 
   -- the counts are those of the job after the call
-  sized : (d e : List ℕ) {new : Written} {d₁ e₁ : List ℕ} → Wrote env a d e new d₁ e₁ → job_with env new.vars new.used ≡ grown env a.vars a.clauses
+  sized : (d e : List ℕ) {new : Written} {d₁ e₁ : List ℕ} → CallWrote env a d e new d₁ e₁ → job_with env new.vars new.used ≡ grown env a.vars a.clauses
   sized d e w = let n = counted a.clauses (stores d e env.literals env.clauses) w.clauses in rw (w.vars, n.0, n.1)
 
   -- its own checks refuse it
@@ -61,7 +61,7 @@ module _ (asks : JobChecks) (gives : JobAddition) (settles : Settled asks gives)
       let some = number_some x in
       refuses all env lits ends _ x (h ∙ sym (stops checks (space_for env (length lits) (length ends) job.variables a.clauses) (λ z. omega arith)))
 
-  module _ (z : 0 ≡ status_of checks) (size : Written) {d₁ e₁ : List ℕ} (w : Wrote env a [] [] size d₁ e₁) where
+  module _ (z : 0 ≡ status_of checks) (size : Written) {d₁ e₁ : List ℕ} (w : CallWrote env a [] [] size d₁ e₁) where
     -- the number of all checks is that of space
     of_space : status_of (space_checks size.vars size.used.lits size.used.clauses (length lits) (length ends)) ≡ all
     of_space =
@@ -76,7 +76,7 @@ module _ (asks : JobChecks) (gives : JobAddition) (settles : Settled asks gives)
 
     -- it was written
     module _ (s : 0 ≡ status_of (space_checks size.vars size.used.lits size.used.clauses (length lits) (length ends)))
-        (new : Written) {lits₁ ends₁ : List ℕ} (wrote : Wrote env a lits ends new lits₁ ends₁) where
+        (new : Written) {lits₁ ends₁ : List ℕ} (wrote : CallWrote env a lits ends new lits₁ ends₁) where
       pub fits : Fits env new
       fits =
           let t = settles env (length lits) (length ends) in

@@ -56,7 +56,7 @@ abbrev pub Passed : (ℕ → ℕ → List Check) → Type 0
 Passed checks = (lits : ℕ) × (ends : ℕ) × (status_of (checks lits ends) ≡ 0)
 
 -- the clauses stand behind those in use, as far as the stores are long
-pub record Wrote (env : EncoderEnv) (a : Addition) (lits ends : List ℕ) (new : Written) (lits-after ends-after : List ℕ) : Type 0 where
+pub record CallWrote (env : EncoderEnv) (a : Addition) (lits ends : List ℕ) (new : Written) (lits-after ends-after : List ℕ) : Type 0 where
   pub clauses : after lits-after ends-after new.used ≡ add_clauses 0 a.clauses (stores lits ends env.literals env.clauses)
   pub vars : new.vars ≡ a.vars
   pub setting : new.setting ≡ a.setting

@@ -5,7 +5,7 @@ ghost use Rattle.std.specs.Prelude.{◌≡◌, ◌^◌, ◌<◌, None, Some};
 ghost use Rattle.refusal.specs.Number.{status};
 ghost use Rattle.encoder_answer.specs.Outcome.{Answers, adds, status_of};
 ghost use Rattle.encoder_answer.specs.Adding.{counts_of, job_with, space_checks, with_record};
-ghost use Rattle.encoder_answer.specs.Call.{Fits, JobAddition, JobChecks, Passed, Settled, Wrote, call_outcome, job_after};
+ghost use Rattle.encoder_answer.specs.Call.{Fits, JobAddition, JobChecks, Passed, Settled, CallWrote, call_outcome, job_after};
 
 use clause_set::Counts;
 use encoder_env::EncoderEnv;
@@ -123,7 +123,7 @@ pub trait AddingCall {
 
     fn write(&self, env: EncoderEnv, lits: &mut [u32], ends: &mut [u32]) -> Written
         requires { Passed (asks self.now env) }
-        ensures { Wrote env (gives self.now env) lits.old ends.old result lits.new ends.new };
+        ensures { CallWrote env (gives self.now env) lits.old ends.old result lits.new ends.new };
 }
 
 // Makes a call: where its checks hold, what it takes is counted with nothing lent, and it is written where that has space.
