@@ -10,14 +10,17 @@ use Rattle.sat.specs.Size.{entries}
 use Rattle.clause_set.specs.declared.Counts.{Counts}
 use Rattle.clause_set.specs.Stores.{Stores, add_clauses, after, stores}
 use Rattle.clause_set.proofs.Adding.{count_after, used_after}
+use Rattle.sat.specs.Encoded.{EncodedRule}
+use Rattle.log_linear.specs.Added.{RuleOutcome, add_rule, rule_outcome}
+use Rattle.log_linear.specs.declared.RuleCounts.{RuleCounts}
 use Rattle.log_var.specs.declared.LogEncoding.{LogEncoding}
 use Rattle.refusal.specs.Number.{number}
 use Rattle.refusal.specs.declared.Refusal.{Refusal}
 use Rattle.encoder_env.specs.declared.EncoderEnv.{EncoderEnv}
 use Rattle.encoder_env.proofs.Kept.{kept}
 use Rattle.encoder_answer.specs.declared.Written.{Written}
-use Rattle.encoder_answer.specs.Adding.{adding_status, grown, job_with, space_checks, space_for}
-use Rattle.encoder_answer.specs.Call.{Addition, Fits, JobAddition, JobChecks, Settled, CallWrote, call_outcome, job_added, job_after, with_setting}
+use Rattle.encoder_answer.specs.Adding.{adding_status, counts_of, grown, job_with, space_checks, space_for}
+use Rattle.encoder_answer.specs.Call.{Addition, Fits, JobAddition, JobChecks, Settles, CallWrote, call_outcome, job_added, job_after, rule, with_setting}
 use Rattle.encoder_answer.specs.Outcome.{Answers, Check, adds, status_of}
 use Rattle.encoder_answer.proofs.Adding.{accepted}
 use Rattle.encoder_answer.proofs.Statuses.{accepts, refuses, stops, then_rest, number_some}
@@ -35,7 +38,8 @@ same_variables : (r : Option LogEncoding) (env : EncoderEnv) → (with_setting r
 same_variables None env = refl
 same_variables (Some e) env = refl
 
-module _ (asks : JobChecks) (gives : JobAddition) (settles : Settled asks gives) (env : EncoderEnv) (lits ends : List ℕ) where
+module _ (asks : JobChecks) (gives : JobAddition) (env : EncoderEnv) (lits ends : List ℕ)
+    (t : Settles env (length lits) (length ends) (asks env (length lits) (length ends)) (gives env)) where
   abbrev a : Addition
   a = gives env
 
@@ -67,7 +71,7 @@ module _ (asks : JobChecks) (gives : JobAddition) (settles : Settled asks gives)
     of_space =
         let n = counted a.clauses (stores [] [] env.literals env.clauses) w.clauses in
         rw (w.vars, n.0, n.1, same_variables a.setting (grown env a.vars a.clauses))
-        (sym (then_rest checks (space_for env (length lits) (length ends) a.vars a.clauses) (settles env (length lits) (length ends)).numbered (sym z)))
+        (sym (then_rest checks (space_for env (length lits) (length ends) a.vars a.clauses) t.numbered (sym z)))
 
     -- there is no space
     pub no_space : (x : Refusal) → number x ≡ status_of (space_checks size.vars size.used.lits size.used.clauses (length lits) (length ends))
@@ -79,7 +83,6 @@ module _ (asks : JobChecks) (gives : JobAddition) (settles : Settled asks gives)
         (new : Written) {lits₁ ends₁ : List ℕ} (wrote : CallWrote env a lits ends new lits₁ ends₁) where
       pub fits : Fits env new
       fits =
-          let t = settles env (length lits) (length ends) in
           let c = accepted checks env lits ends a.clauses job t.numbered (sym (s ∙ of_space)) in
           let h = kept env (length lits) (length ends) (t.formed (sym z)) in
           let m = counted a.clauses (stores lits ends env.literals env.clauses) wrote.clauses in
@@ -100,3 +103,15 @@ module _ (asks : JobChecks) (gives : JobAddition) (settles : Settled asks gives)
             lits = ap (λ (x : Stores). x.lits) wrote.clauses;
             ends = ap (λ (x : Stores). x.ends) wrote.clauses;
           })
+
+-- a rule that was written, by its own clause
+pub rule_wrote : (env : EncoderEnv) (out : EncodedRule) (lits ends : List ℕ) {at : Counts} → at ≡ counts_of env → {lits₁ ends₁ : List ℕ} {new : RuleCounts}
+    → rule_outcome lits₁ ends₁ new ≡ add_rule out (after lits ends at) → {w : Written} → w ≡ record { vars = new.vars; used = new.used; setting = None }
+    → CallWrote env (rule out) lits ends w lits₁ ends₁
+rule_wrote env out lits ends k w e =
+    rw e
+    (record {
+      clauses = ap (λ (o : RuleOutcome). o.stores) w ∙ ap (λ (c : Counts). add_clauses 0 out.clauses (after lits ends c)) k;
+      vars = ap (λ (o : RuleOutcome). o.vars) w;
+      setting = refl;
+    })

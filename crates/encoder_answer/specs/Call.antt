@@ -41,13 +41,10 @@ call_outcome asks adds env lits ends =
     adding (asks env (length lits) (length ends)) env lits ends (adds env).clauses (job_added env (adds env))
 
 -- What the checks settle: no number is 0, and where all of them hold the job is well formed and has a place for the record.
-pub record SettledAt (env : EncoderEnv) (lits ends : ℕ) (checks : List Check) (a : Addition) : Type 0 where
+pub record Settles (env : EncoderEnv) (lits ends : ℕ) (checks : List Check) (a : Addition) : Type 0 where
   pub numbered : Numbered checks
   pub formed : status_of checks ≡ 0 → well_formed env lits ends ≡ true
   pub free : status_of checks ≡ 0 → (e : LogEncoding) → a.setting ≡ Some e → env.count < 32
-
-abbrev pub Settled : JobChecks → JobAddition → Type 0
-Settled asks adds = (env : EncoderEnv) (lits ends : ℕ) → SettledAt env lits ends (asks env lits ends) (adds env)
 
 -- As the code holds it ------------------------------------------------------------------------------------------------
 

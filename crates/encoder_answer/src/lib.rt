@@ -5,7 +5,7 @@ ghost use Rattle.std.specs.Prelude.{◌≡◌, ◌^◌, ◌<◌, None, Some};
 ghost use Rattle.refusal.specs.Number.{status};
 ghost use Rattle.encoder_answer.specs.Outcome.{Answers, adds, status_of};
 ghost use Rattle.encoder_answer.specs.Adding.{counts_of, job_with, space_checks, with_record};
-ghost use Rattle.encoder_answer.specs.Call.{Fits, JobAddition, JobChecks, Passed, Settled, CallWrote, call_outcome, job_after};
+ghost use Rattle.encoder_answer.specs.Call.{Fits, JobAddition, JobChecks, Passed, Settles, CallWrote, call_outcome, job_after};
 
 use clause_set::Counts;
 use encoder_env::EncoderEnv;
@@ -115,11 +115,9 @@ pub trait AddingCall {
 
     ghost gives: { Self → JobAddition };
 
-    // what the checks settle
-    ghost settles: { (call : Self) → Settled (asks call) (gives call) };
-
     fn check(&self, env: EncoderEnv, lits: usize, ends: usize) -> Result<(), Refusal>
-        ensures { status result ≡ status_of (asks self.now env lits ends) };
+        ensures number { status result ≡ status_of (asks self.now env lits ends) }
+        ensures settles { Settles env lits ends (asks self.now env lits ends) (gives self.now env) };
 
     fn write(&self, env: EncoderEnv, lits: &mut [u32], ends: &mut [u32]) -> Written
         requires { Passed (asks self.now env) }
