@@ -1,19 +1,19 @@
 -- What adding clauses leaves in the stores: one list after another; a loop that adds.
 use mathlib.Core.Path.{◌≡◌, refl, ap, subst, sym, ◌∙◌}
 use mathlib.Core.List.{List, [], ◌∷◌, ◌++◌, map, map-append}
-use Prim.Native.Nat.{ℕ, suc, ◌+◌, ◌<◌}
+use Prim.Native.Nat.{ℕ, suc, zero, ◌≤◌, ◌+◌, ◌<◌}
 use native.Mathlib.Nat.{add-zero}
 use native.Mathlib.Numerals.{add-one}
 use native.Mathlib.Omega.{arith}
 use lib.ListN.{length, take, get_or, set, length-append, length-map}
-use lib.Seq.{sets, take-suc, length-take-le}
+use lib.Seq.{length-take-le, sets, take-append_seam, take-suc}
 use Rattle.sat.specs.Size.{entries}
 use Rattle.sat.proofs.Size.{entries_append}
 use Rattle.clause_set.specs.declared.Counts.{Counts}
 use Rattle.sat.specs.declared.Lit.{Lit}
 use Rattle.clause_set.specs.declared.ClauseSet.{ClauseSet}
 use Rattle.std.proofs.Common.{MutBor}
-use Rattle.sat.specs.LitArray.{num}
+use Rattle.sat.specs.LitArray.{first_lits, num}
 use Rattle.clause_set.specs.Stores.{Stores, stores, after, add_clause, add_clauses, Fits}
 
 pub sets_append : (a l : List ℕ) (i : ℕ) (b : List ℕ) → sets l i (a ++ b) ≡ sets (sets l i a) (i + length a) b
@@ -37,6 +37,21 @@ lits_more l i c k h =
 -- a set of clauses with another reference to its literals
 pub with_lits : (s t : ClauseSet) (a : MutBor (List ℕ)) → t ≡ record s { lits = t.lits } → record t { lits = a } ≡ record s { lits = a }
 with_lits s t a e = ap (λ (u : ClauseSet). record u { lits = a }) e
+
+-- fewer of an array's first literals
+pub fewer_lits : (ls : List Lit) (m n : ℕ) → m ≤ n → first_lits ls m ≡ take m (first_lits ls n)
+fewer_lits ls zero n h = refl
+fewer_lits ls (suc m) zero h = absurd (omega arith)
+fewer_lits [] (suc m) (suc n) h = refl
+fewer_lits (l ∷ ls) (suc m) (suc n) h = ap (λ (xs : List ℕ). l.0 ∷ xs) (fewer_lits ls m n (omega arith))
+
+-- an array's first literals without the last of them
+pub but_last : (ls : List Lit) (m n : ℕ) (xs : List ℕ) (x : ℕ) → m + 1 ≡ n → n ≤ length ls → first_lits ls n ≡ xs ++ (x ∷ []) → first_lits ls m ≡ xs
+but_last ls m n xs x e h f =
+    let long : length (first_lits ls n) ≡ n = length-map (take n ls) num ∙ length-take-le n ls h in
+    let more : length (first_lits ls n) ≡ length xs + 1 = ap length f ∙ length-append xs (x ∷ []) in
+    let k : m ≡ length xs = omega arith in
+    fewer_lits ls m n (omega arith) ∙ ap (take m) f ∙ ap (λ j. take j (xs ++ (x ∷ []))) k ∙ take-append_seam xs (x ∷ [])
 
 -- Clauses one after the other ----------------------------------------------------------------------------------------
 
