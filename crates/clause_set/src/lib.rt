@@ -49,8 +49,10 @@ impl ClauseSet<'_> {
     {
         let from = self.used.lits;
         let n = clause.len();
-        for (i, l) in clause.iter().enumerate() {
-            put(self.lits, from + i, l.0);
+        let stored = n.min(self.lits.len().saturating_sub(from));
+        let lits = &mut *self.lits;
+        for (i, l) in clause[..stored].iter().enumerate() {
+            lits[from + i] = l.0;
         }
         let k = self.used.clauses;
         put(self.ends, k + 1, self.base + (from + n) as u32);
