@@ -4,11 +4,12 @@ use mathlib.Core.List.{List, [], ◌∷◌, ◌++◌}
 use Prim.Native.Nat.{ℕ, suc, ◌+◌, ◌≤◌, ◌<◌, min}
 use native.Mathlib.Omega.{arith}
 use native.Mathlib.Nat.{add-zero, zero-add}
-use native.Mathlib.Numerals.{add-one}
-use lib.ListN.{length, set, get_or, take, drop, length-set, drop_of_length-le}
-use lib.Seq.{sets, sets-eq, set_out, drop-cons, take_at}
+use lib.ListN.{length, set, get_or, take, drop, length-set}
+use lib.Seq.{sets, sets-eq, set_out, take_at}
 use borrow.Author.Tests.{le-leb, lt-leb}
-use Rattle.text.specs.Bytes.{Printed, Text, text, put, whole, write}
+use Rattle.std.proofs.lemmas.List.{take_more}
+use Rattle.text.specs.declared.Writer.{Writer}
+use Rattle.text.specs.Bytes.{Printed, Text, Wrote, text, text_of, put, whole, write}
 
 pub write_append : (a : List ℕ) (s : Text) (b : List ℕ) → write s (a ++ b) ≡ write (write s a) b
 unfolding write
@@ -40,16 +41,34 @@ write_fits (b ∷ t) l at h =
     let f : suc at + length t ≡ at + suc (length t) = omega arith in
     rw e (write_fits t (set l at b) (suc at) k ∙ ap (λ (n : ℕ). text (sets (set l at b) (suc at) t) n) f)
 
--- in a loop that writes: after a part, what is left of it completes the same text
-pub rest_after : (t : Text) (a r : List ℕ) {u g : Text} → u ≡ write t a → write t (a ++ r) ≡ g → write u r ≡ g
-rest_after t a r p q = ap (λ (x : Text). write x r) p ∙ sym (write_append a t r) ∙ q
+-- What a writer wrote ---------------------------------------------------------------------------------------------------
 
-pub rest_after_byte : (t : Text) (s : List ℕ) (i : ℕ) {u g : Text} → i < length s → u ≡ write t (get_or s i 0 ∷ []) → write t (drop i s) ≡ g → write u (drop (i + 1) s) ≡ g
-rest_after_byte t s i h p q = rw add-one (rest_after t (get_or s i 0 ∷ []) (drop (suc i) s) p (rw (← drop-cons s i 0 h) q))
-
-pub rest_none : (t : Text) (s : List ℕ) (i : ℕ) {g : Text} → length s ≤ i → write t (drop i s) ≡ g → t ≡ g
+pub wrote_none : (s : Writer) → Wrote s [] s
 unfolding write
-rest_none t s i h q = rw (drop_of_length-le s h) at q
+wrote_none s = record { same = refl; text = refl }
+
+pub wrote_both : {s t u : Writer} (a b : List ℕ) → Wrote s a t → Wrote t b u → Wrote s (a ++ b) u
+wrote_both {s} a b p q = record { same = q.same ∙ p.same; text = write_then (text_of s) a b p.text q.text }
+
+-- the next byte of a list
+pub wrote_more : {s t u : Writer} (bs : List ℕ) (i : ℕ) → i < length bs → Wrote s (take i bs) t → Wrote t (get_or bs i 0 ∷ []) u → Wrote s (take (i + 1) bs) u
+wrote_more bs i h p q = rw (take_more bs i 0 h) (wrote_both (take i bs) (get_or bs i 0 ∷ []) p q)
+
+-- u has begun what s is to write, and has `rest` of it left
+pub record Writing (s : Writer) (all : List ℕ) (u : Writer) (rest : List ℕ) : Type 0 where
+  pub same : u.out.ghost_name ≡ s.out.ghost_name
+  pub text : write (text_of u) rest ≡ write (text_of s) all
+
+pub writing_none : (s : Writer) (all : List ℕ) → Writing s all s all
+writing_none s all = record { same = refl; text = refl }
+
+pub writing_more : {s u v : Writer} {all : List ℕ} (a rest : List ℕ) → Writing s all u (a ++ rest) → Wrote u a v → Writing s all v rest
+writing_more {u = u} a rest p q =
+    record { same = q.same ∙ p.same; text = ap (λ (x : Text). write x rest) q.text ∙ sym (write_append a (text_of u) rest) ∙ p.text }
+
+pub writing_end : {s u : Writer} {all : List ℕ} → Writing s all u [] → Wrote s all u
+unfolding write
+writing_end p = record { same = p.same; text = p.text }
 
 -- a text that fits, written from the slice's start
 pub printed : (t before after : List ℕ) {n r : ℕ} → n ≡ length t → n ≤ length before → text after r ≡ write (text before 0) t → Printed t before n after

@@ -7,9 +7,10 @@ use native.Mathlib.Omega.{arith}
 use lib.Dec.{ltb}
 use lib.ListN.{length, length-append}
 use borrow.Author.Tests.{lt-ltb, le-ltb, ltb-true, ltb-false}
-use Rattle.text.specs.Bytes.{Text, write}
+use Rattle.text.specs.declared.Writer.{Writer}
+use Rattle.text.specs.Bytes.{Wrote}
 use Rattle.text.specs.Decimal.{digits, decimal, digits_value}
-use Rattle.text.proofs.Laws.{write_then}
+use Rattle.text.proofs.Laws.{wrote_both}
 
 -- room for more digits makes no difference
 more_digits : (k m n : ℕ) → n < k → n < m → digits k n ≡ digits m n
@@ -75,9 +76,12 @@ read_back (suc k) n h = by (ltb n 10) refl (read_back k (n / 10))
 pub decimal_value : (n : ℕ) → digits_value 0 (decimal n) ≡ n
 decimal_value n = read_back (suc n) n (omega arith)
 
--- what `put_decimal` writes, by its two returns
-pub wrote_digit : (s : Text) (n : ℕ) {d : ℕ} {u : Text} → n < 10 → d ≡ 48 + n → u ≡ write s (d ∷ []) → u ≡ write s (decimal n)
-wrote_digit s n h e w = rw (decimal_digit n h, ← e) w
+-- What `put_decimal` writes, of one digit and of more: m is the writer as the last digit finds it.
+module _ {s m u : Writer} (n : ℕ) {d : ℕ} (e : d ≡ 48 + n % 10) (w : Wrote m (d ∷ []) u) where
+  pub wrote_digit : n < 10 → m ≡ s → Wrote s (decimal n) u
+  wrote_digit h g =
+      let same : n % 10 ≡ n = omega arith in
+      rw (decimal_digit n h) (rw (e, same, g) at w)
 
-pub wrote_digits : (s : Text) (n : ℕ) {d : ℕ} {t u : Text} → 10 ≤ n → d ≡ 48 + n % 10 → t ≡ write s (decimal (n / 10)) → u ≡ write t (d ∷ []) → u ≡ write s (decimal n)
-wrote_digits s n {d} h e v w = rw (decimal_more n h, ← e) (write_then s (decimal (n / 10)) (d ∷ []) v w)
+  pub wrote_digits : {t : Writer} → 10 ≤ n → m ≡ t → Wrote s (decimal (n / 10)) t → Wrote s (decimal n) u
+  wrote_digits h g v = rw (decimal_more n h) (wrote_both (decimal (n / 10)) ((48 + n % 10) ∷ []) v (rw (e, g) at w))

@@ -1,19 +1,73 @@
-// Text written into a lent slice of bytes, from a place on. Each function answers the place behind what it wrote.
+// Text written into a lent slice of bytes, one behind the other.
 #![tactic(auto)]
 
-ghost use Rattle.std.specs.Prelude.{◌≡◌, [], ◌∷◌, length, ◌+◌, ◌<◌, ◌≤◌};
-ghost use Rattle.text.specs.Bytes.{text, write};
+ghost use Rattle.std.specs.Prelude.{◌≡◌, [], ◌∷◌, length, take, ◌+◌, ◌<◌, ◌≤◌};
+ghost use Rattle.text.specs.Bytes.{Wrote, text, text_of};
 ghost use Rattle.text.specs.Decimal.{decimal, integer};
 
-// One byte. Past the end nothing is written, and the place stays at the end.
-pub fn put(out: &mut [u8], at: usize, b: u8) -> usize
-    ensures { text out.new result ≡ write (text out.old at) (b ∷ []) }
-{
-    if at < out.len() {
-        out[at] = b;
-        return at + 1;
+// A lent slice, and the place that the next byte goes to.
+#[derive(Drop)]
+pub struct Writer<'a> {
+    out: &'a mut [u8],
+    pub at: usize,
+}
+
+impl<'a> Writer<'a> {
+    // A writer at the start of a slice.
+    pub fn new(out: &'a mut [u8]) -> Writer<'a>
+        ensures same { result.out.ghost_name ≡ out.entry.ghost_name }
+        ensures text { text_of result ≡ text out.old 0 }
+    {
+        Writer { out, at: 0 }
     }
-    out.len()
+
+    // The bytes before the place.
+    pub fn written(&self) -> &[u8]
+        ensures { result.now ≡ take self.now.at self.now.out.now }
+    {
+        &self.out[..self.at.min(self.out.len())]
+    }
+
+    // One byte. Past the end nothing is written, and the place stays at the end.
+    pub fn put(&mut self, b: u8)
+        ensures { Wrote self.old (b ∷ []) self.new }
+    {
+        if self.at < self.out.len() {
+            self.out[self.at] = b;
+            self.at += 1;
+        } else {
+            self.at = self.out.len();
+        }
+    }
+
+    // The bytes of `s`.
+    pub fn put_bytes(&mut self, s: &[u8])
+        ensures { Wrote self.old s.now self.new }
+    {
+        for b in s {
+            self.put(*b);
+        }
+    }
+
+    // A number in decimal.
+    pub fn put_decimal(&mut self, n: u32)
+        ensures { Wrote self.old (decimal n) self.new }
+    {
+        if n >= 10 {
+            self.put_decimal(n / 10);
+        }
+        self.put(digit(n % 10));
+    }
+
+    // A signed number in decimal.
+    pub fn put_integer(&mut self, z: i32)
+        ensures { Wrote self.old (integer z) self.new }
+    {
+        if z < 0 {
+            self.put(b'-');
+        }
+        self.put_decimal(z.unsigned_abs());
+    }
 }
 
 // The ASCII digit of a number below 10.
@@ -21,18 +75,7 @@ fn digit(d: u32) -> u8
     requires { d < 10 }
     ensures { result ≡ 48 + d }
 {
-    48 + d as u8
-}
-
-// A number in decimal.
-pub fn put_decimal(out: &mut [u8], at: usize, n: u32) -> usize
-    ensures { text out.new result ≡ write (text out.old at) (decimal n) }
-{
-    if n < 10 {
-        return put(out, at, digit(n));
-    }
-    let next = put_decimal(out, at, n / 10);
-    put(out, next, digit(n % 10))
+    b'0' + d as u8
 }
 
 // How many bytes a number takes in decimal.
@@ -43,28 +86,4 @@ pub fn decimal_length(n: u32) -> usize
         return 1;
     }
     decimal_length(n / 10) + 1
-}
-
-// The bytes of `s`.
-pub fn put_bytes(out: &mut [u8], at: usize, s: &[u8]) -> usize
-    ensures { text out.new result ≡ write (text out.old at) s.now }
-{
-    let mut to = at;
-    let mut i: usize = 0;
-    while i < s.len() {
-        to = put(out, to, s[i]);
-        i += 1;
-    }
-    to
-}
-
-// A signed number in decimal.
-pub fn put_integer(out: &mut [u8], at: usize, z: i32) -> usize
-    ensures { text out.new result ≡ write (text out.old at) (integer z) }
-{
-    if z < 0 {
-        let next = put(out, at, b'-');
-        return put_decimal(out, next, (-1 - z) as u32 + 1);
-    }
-    put_decimal(out, at, z as u32)
 }
