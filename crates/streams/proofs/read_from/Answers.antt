@@ -25,13 +25,13 @@ loop-n-preserved g c =
     let l = c.loop-n in
     let room = length l.buf - l.n in
     let within = l.invariant.1 in
-    let part = slice_range-put_mid l.n room c.in-Ok.more l.buf c.read.new.buf within c.in-Ok.ensures.bound.0 in
+    let part = slice_range-put_mid l.n room c.in_ok-more.more l.buf c.read.new.buf within c.in_ok-more.ensures.bound.0 in
     let joined =
-    take_split l.n (l.n + c.in-Ok.more) l.buf (put_mid l.n room l.buf c.read.new.buf) (omega arith)
+    take_split l.n (l.n + c.in_ok-more.more) l.buf (put_mid l.n room l.buf c.read.new.buf) (omega arith)
     (take-put_mid_below _ _ _ _ _ (le_refl _) within)
     in (
       search rules,
       search rules,
       subst (Consumes _ _) (ap (λ bs. take l.n l.buf ++ bs) (sym part) ∙ joined)
-          (Consumes-trans _ _ _ _ _ l.invariant.2 c.in-Ok.ensures.bytes.0),
+          (Consumes-trans _ _ _ _ _ l.invariant.2 c.in_ok-more.ensures.bytes.0),
     )
