@@ -1,19 +1,24 @@
 -- How long each part of the print is, as the code adds it up.
 use Prim.Native.Nat.{◌+◌, ◌<◌, ◌≤◌, ℕ}
 use lib.ListN.{drop, get_or, length, length-append}
-use mathlib.Core.List.{List}
+use mathlib.Core.Bool.{Bool, cond, false, true}
+use mathlib.Core.List.{List, ◌∷◌}
+use mir.Val.{bool_byte}
+use lib.Dec.{eqb}
 use mathlib.Core.Path.{◌≡◌}
 use native.Mathlib.Omega.{arith}
 use Rattle.text.specs.Decimal.{decimal}
 use Rattle.solver_answer.specs.Print.{print, signed, values_from}
-use Rattle.solver_print.proofs.Printing.{next_value, no_value, signed_false, signed_true}
+use Rattle.solver_print.proofs.Printing.{next_value, no_value}
 
-module _ (x b : ℕ) {d : ℕ} (h : (d ≡ length (decimal x)) × (d ≤ 10)) where
-  pub true_long : (b ≡ 0 → ⊥) → (d ≡ length (signed x b)) × (d ≤ 11)
-  true_long p = (rw (signed_true x b p) h.0, omega arith)
-
-  pub false_long : b ≡ 0 → (d + 1 ≡ length (signed x b)) × (d + 1 ≤ 11)
-  false_long p = (rw (signed_false x b p) (omega (arith, h.0)), omega arith)
+-- a variable's number and its minus
+pub signed_long : (x b : ℕ) {d m : ℕ} → (d ≡ length (decimal x)) × (d ≤ 10) → m ≡ bool_byte (eqb b 0) → (d + m ≡ length (signed x b)) × (d + m ≤ 11)
+unfolding signed
+signed_long x b {d} {m} h e = by (eqb b 0) e
+  where
+    by : (t : Bool) → m ≡ bool_byte t → (d + m ≡ length (cond t (45 ∷ decimal x) (decimal x))) × (d + m ≤ 11)
+    by true q = (omega (arith, h.0, q), omega (arith, h.1, q))
+    by false q = (omega (arith, h.0, q), omega (arith, h.1, q))
 
 -- the print, where m bytes are counted and the values from i on are left
 module _ (bytes : List ℕ) (i m : ℕ) {g : ℕ} where

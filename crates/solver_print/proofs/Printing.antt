@@ -4,11 +4,12 @@ use borrow.Author.Tests.{ne_eqb}
 use lib.ListN.{drop, drop_of_length-le, get_or, length}
 use lib.Seq.{drop-cons}
 use mathlib.Core.List.{List, [], ◌++◌, ◌∷◌}
-use mathlib.Core.Path.{◌∙◌, ◌≡◌}
+use mathlib.Core.Path.{◌≡◌}
 use native.Mathlib.Numerals.{add-one}
-use Rattle.text.specs.Bytes.{Text, write}
+use Rattle.text.specs.declared.Writer.{Writer}
+use Rattle.text.specs.Bytes.{Wrote}
 use Rattle.text.specs.Decimal.{decimal}
-use Rattle.text.proofs.Laws.{rest_after, write_then}
+use Rattle.text.proofs.Laws.{Writing, writing_end, writing_more, wrote_both}
 use Rattle.solver_answer.specs.Lines.{satisfiable_line}
 use Rattle.solver_answer.specs.Print.{print, signed, values_from}
 
@@ -23,11 +24,13 @@ module _ (x b : ℕ) where
   unfolding signed
   signed_false h = rw h
 
-  pub wrote_true : (s : Text) {u : Text} → (b ≡ 0 → ⊥) → u ≡ write s (decimal x) → u ≡ write s (signed x b)
-  wrote_true s h w = rw (signed_true h) w
+-- what `put_signed` writes: m is the writer as the number finds it
+module _ {s m u : Writer} (x b : ℕ) (w : Wrote m (decimal x) u) where
+  pub wrote_true : (b ≡ 0 → ⊥) → m ≡ s → Wrote s (signed x b) u
+  wrote_true h g = rw (signed_true x b h) (rw g at w)
 
-  pub wrote_false : (s : Text) {t u : Text} → b ≡ 0 → t ≡ write s (45 ∷ []) → u ≡ write t (decimal x) → u ≡ write s (signed x b)
-  wrote_false s h p q = rw (signed_false h) (write_then s (45 ∷ []) (decimal x) p q)
+  pub wrote_false : {t : Writer} → b ≡ 0 → m ≡ t → Wrote s (45 ∷ []) t → Wrote s (signed x b) u
+  wrote_false h g p = rw (signed_false x b h) (wrote_both (45 ∷ []) (decimal x) p (rw g at w))
 
 -- The values from i on -----------------------------------------------------------------------------------------------
 
@@ -40,19 +43,20 @@ module _ (bytes : List ℕ) (i : ℕ) where
   unfolding values_from
   no_value h = rw (drop_of_length-le bytes h)
 
-  pub values_turn : (t : Text) {u w g : Text} → i < length bytes → u ≡ write t (32 ∷ []) → w ≡ write u (signed (i + 1) (get_or bytes i 0))
-      → write t (values_from (i + 1) (drop i bytes)) ≡ g → write w (values_from (i + 1 + 1) (drop (i + 1) bytes)) ≡ g
-  values_turn t {u} h a b q =
-      let rest = values_from (i + 1 + 1) (drop (i + 1) bytes) in
-      let number = signed (i + 1) (get_or bytes i 0) in
-      rest_after u number rest b (rest_after t (32 ∷ []) (number ++ rest) a (rw (next_value h) at q))
+  module _ {s t : Writer} {all : List ℕ} where
+    pub values_turn : {u w : Writer} → i < length bytes → Writing s all t (values_from (i + 1) (drop i bytes)) → Wrote t (32 ∷ []) u
+        → Wrote u (signed (i + 1) (get_or bytes i 0)) w → Writing s all w (values_from (i + 1 + 1) (drop (i + 1) bytes))
+    values_turn h p a b =
+        let rest = values_from (i + 1 + 1) (drop (i + 1) bytes) in
+        let number = signed (i + 1) (get_or bytes i 0) in
+        writing_more number rest (writing_more (32 ∷ []) (number ++ rest) (rw (next_value h) at p) a) b
 
-  pub values_end : (t : Text) {u g : Text} → length bytes ≤ i → u ≡ write t (32 ∷ 48 ∷ 10 ∷ []) → write t (values_from (i + 1) (drop i bytes)) ≡ g → u ≡ g
-  values_end t h a q = a ∙ (rw (no_value h) at q)
+    pub values_end : {u : Writer} → length bytes ≤ i → Writing s all t (values_from (i + 1) (drop i bytes)) → Wrote t (32 ∷ 48 ∷ 10 ∷ []) u → Wrote s all u
+    values_end h p a = writing_end (writing_more (32 ∷ 48 ∷ 10 ∷ []) [] (rw (no_value h) at p) a)
 
 -- The whole ----------------------------------------------------------------------------------------------------------
 
-pub wrote_print : (s : Text) (bytes : List ℕ) {t u : Text} → t ≡ write s (satisfiable_line ++ (10 ∷ 118 ∷ [])) → u ≡ write t (values_from 1 bytes)
-    → u ≡ write s (print bytes)
+pub wrote_print : {s t u : Writer} (bytes : List ℕ) → Wrote s (satisfiable_line ++ (10 ∷ 118 ∷ [])) t → Wrote t (values_from 1 bytes) u
+    → Wrote s (print bytes) u
 unfolding print
-wrote_print s bytes a b = write_then s (satisfiable_line ++ (10 ∷ 118 ∷ [])) (values_from 1 bytes) a b
+wrote_print bytes a b = wrote_both (satisfiable_line ++ (10 ∷ 118 ∷ [])) (values_from 1 bytes) a b

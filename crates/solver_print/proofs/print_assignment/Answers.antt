@@ -1,10 +1,11 @@
 -- `solver_print::print_assignment` meets its contract.
-use Rattle.text.proofs.Laws.{not_printed, printed}
+use Rattle.std.proofs.Common.{rules}
+use Rattle.text.proofs.Laws.{not_printed, printed_by}
 use Rattle.solver_print.proofs.print_assignment.Goals as goal
 
 pub returns-then-size-out : goal.returns-then-size-out
 returns-then-size-out c =
-    printed _ _ _ c.print_length-size.ensures c.if-size-out.true c.put_print.ensures
+    printed_by _ _ c.print_length-size.ensures c.if-size-out.true c.new.ensures.text c.put_print.ensures (search rules)
 
 pub returns-else-size-out : goal.returns-else-size-out
 returns-else-size-out c = not_printed _ _ c.print_length-size.ensures c.if-size-out.false

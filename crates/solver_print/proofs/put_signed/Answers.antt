@@ -1,10 +1,12 @@
 -- `solver_print::put_signed` meets its contract.
 use Rattle.solver_print.proofs.Printing.{wrote_false, wrote_true}
 use Rattle.solver_print.proofs.put_signed.Goals as goal
-
-pub returns-then-b-eq0 : goal.returns-then-b-eq0
-returns-then-b-eq0 c =
-    wrote_false _ _ _ c.if-b-eq0.true c.put-to.ensures c.put_decimal.ensures
+use Rattle.solver_print.proofs.put_signed.Goals.{then-b-eq0, else-b-eq0}
 
 pub returns : goal.returns
-returns c = wrote_true _ _ _ c.if-b-eq0.false c.put_decimal-2.ensures
+returns c =
+    let a = c.args in
+    elim c.if-b-eq0.branch [
+      | then-b-eq0 w ↦ wrote_false a.x a.b c.put_decimal.ensures w.if-b-eq0.true w.w-is w.put.ensures
+      | else-b-eq0 w ↦ wrote_true a.x a.b c.put_decimal.ensures w.if-b-eq0.false w.w-is
+    ]
