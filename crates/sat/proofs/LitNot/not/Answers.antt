@@ -1,8 +1,8 @@
--- `sat::Lit::negated` meets its contract.
+-- The `!` of a literal meets its contract.
 use borrow.Author.Rules.{rules}
 use borrow.Author.Tests.{eq-eqb, ne_eqb}
 use Rattle.sat.specs.Lit.{neg}
-use Rattle.sat.proofs.Lit.negated.Goals as goal
+use Rattle.sat.proofs.LitNot.not.Goals as goal
 
 pub returns-then-n-eq0 : goal.returns-then-n-eq0
 unfolding neg
