@@ -2,7 +2,8 @@
 use Prim.Native.Nat.{◌+◌, ◌-◌, ◌<◌, ◌≤◌, ℕ}
 use lib.ListN.{drop, drop_of_length-le, get_or, length, length-append, length-drop, length-take}
 use lib.Seq.{drop-cons}
-use mathlib.Core.Bool.{false, true}
+use mathlib.Core.Bool.{Bool, cond, false, true}
+use mir.Val.{bool_byte}
 use mathlib.Core.List.{List, ◌∷◌, []}
 use mathlib.Core.Path.{◌∙◌, ◌≡◌, ap}
 use native.Mathlib.Numerals.{add-one}
@@ -14,14 +15,18 @@ use Rattle.text.specs.Decimal.{decimal}
 use Rattle.dimacs.specs.Dimacs.{clause, clauses, dimacs, header, line, literal, number, print_of, refused}
 use Rattle.dimacs.proofs.Parts.{from_none, from_some}
 
-module _ (l : ℕ) {n d : ℕ} (e : n ≡ number l) (h : (d ≡ length (decimal n)) × (d ≤ 10)) where
-  pub positive_long : is_negated l ≡ false → (d ≡ length (literal l)) × (d ≤ 11)
-  unfolding literal
-  positive_long p = (rw p (h.0 ∙ ap (λ x. length (decimal x)) e), omega arith)
+-- a literal's number and its minus
+pub literal_long : (l : ℕ) {n d m : ℕ} → n ≡ number l → (d ≡ length (decimal n)) × (d ≤ 10) → m ≡ bool_byte (is_negated l)
+    → (d + m ≡ length (literal l)) × (d + m ≤ 11)
+unfolding literal
+literal_long l {n} {d} {m} e h p = by (is_negated l) p
+  where
+    k : d ≡ length (decimal (number l))
+    k = h.0 ∙ ap (λ x. length (decimal x)) e
 
-  pub negated_long : is_negated l ≡ true → (d + 1 ≡ length (literal l)) × (d + 1 ≤ 11)
-  unfolding literal
-  negated_long p = (rw p (omega (arith, h.0 ∙ ap (λ x. length (decimal x)) e)), omega arith)
+    by : (t : Bool) → m ≡ bool_byte t → (d + m ≡ length (cond t (45 ∷ decimal (number l)) (decimal (number l)))) × (d + m ≤ 11)
+    by true q = (omega (arith, k, q), omega (arith, h.1, q))
+    by false q = (omega (arith, k, q), omega (arith, h.1, q))
 
 -- a clause, where m bytes are counted and the literals from i on are left
 module _ (p : List ℕ) (i m : ℕ) {g : ℕ} where

@@ -10,11 +10,7 @@ use sat::Lit;
 fn literal_length(l: Lit) -> usize
     ensures { (result ≡ length (literal l.0)) × (result ≤ 11) }
 {
-    let n = text::decimal_length(super::number(l));
-    if l.is_negated() {
-        return n + 1;
-    }
-    n
+    text::decimal_length(super::number(l)) + usize::from(l.is_negated())
 }
 
 // A clause, handed over as a part of the literal store.
@@ -23,10 +19,8 @@ fn clause_length(part: &[u32]) -> usize
     ensures { (result ≡ length (clause part.now)) × (result ≤ 201326594) }
 {
     let mut size: usize = 2;
-    let mut i: usize = 0;
-    while i < part.len() {
-        size += literal_length(Lit(part[i])) + 1;
-        i += 1;
+    for l in part {
+        size += literal_length(Lit(*l)) + 1;
     }
     size
 }
@@ -37,10 +31,8 @@ fn clauses_length(lits: &[u32], ends: &[u32], count: u32) -> usize
     ensures { (result ≡ length (clauses (clauses_from lits.now ends.now 0 count))) × (result ≤ 201326594 * count) }
 {
     let mut size: usize = 0;
-    let mut k: u32 = 0;
-    while k < count {
+    for k in 0..count {
         size += clause_length(super::clause_at(lits, ends, k));
-        k += 1;
     }
     size
 }

@@ -5,6 +5,7 @@ ghost use Rattle.dimacs.specs.Dimacs.{print_of, refused};
 
 use super::lengths::{dimacs_length, refused_length};
 use encoder_env::EncoderEnv;
+use text::Writer;
 
 // The print of a job and its stores.
 pub fn print_dimacs(out: &mut [u8], env: EncoderEnv, lits: &[u32], ends: &[u32]) -> usize
@@ -13,7 +14,7 @@ pub fn print_dimacs(out: &mut [u8], env: EncoderEnv, lits: &[u32], ends: &[u32])
 {
     let size = dimacs_length(env, lits, ends);
     if size <= out.len() {
-        super::put_dimacs(out, env, lits, ends);
+        super::put_dimacs(&mut Writer::new(out), env, lits, ends);
     }
     size
 }
@@ -24,7 +25,7 @@ pub fn print_refused(out: &mut [u8], field: u32, status: u32) -> usize
 {
     let size = refused_length(field, status);
     if size <= out.len() {
-        super::put_refused(out, field, status);
+        super::put_refused(&mut Writer::new(out), field, status);
     }
     size
 }

@@ -1,15 +1,13 @@
 -- `dimacs::put_clause` meets its contract.
-use borrow.Author.Rules.{rules}
-use Rattle.text.specs.Bytes.{text}
+use Rattle.text.proofs.Laws.{writing_none}
 use Rattle.dimacs.proofs.Printing.{clause_end, clause_turn}
 use Rattle.dimacs.proofs.put_clause.Goals as goal
 
-pub loop-i-preserved : goal.loop-i-preserved
-loop-i-preserved c =
-    let l = c.loop-i in
-    (search rules, search rules, clause_turn (text l.out l.to) _ l.i c.loop-i-test.true c.put_literal-to.ensures c.put-to.ensures l.invariant.2)
+pub loop-l-init : goal.loop-l-init
+loop-l-init c = writing_none c.args.w.now _
+
+pub loop-l-preserved : goal.loop-l-preserved
+loop-l-preserved c = clause_turn _ c.loop-l.l-index c.loop-l-test.true c.loop-l.invariant c.put_literal.ensures c.put.ensures
 
 pub returns : goal.returns
-returns c =
-    let l = c.loop-i in
-    clause_end (text l.out l.to) _ l.i c.loop-i-test.false c.put-to-2.ensures c.put.ensures l.invariant.2
+returns c = clause_end _ c.loop-l.l-index c.loop-l-test.false c.loop-l.invariant c.put_bytes.ensures

@@ -3,6 +3,4 @@ use Rattle.dimacs.proofs.Printing.{wrote_print}
 use Rattle.dimacs.proofs.put_dimacs.Goals as goal
 
 pub returns : goal.returns
-returns c =
-    let a = c.args in
-    wrote_print _ a.env a.lits.now a.ends.now c.put_line-to.ensures c.put_clauses.ensures
+returns c = wrote_print c.args.env c.args.lits.now c.args.ends.now c.put_line.ensures c.put_clauses.ensures

@@ -2,11 +2,14 @@
 use mathlib.Core.Path.{◌∙◌, sym}
 use Rattle.dimacs.proofs.Printing.{wrote_negated, wrote_positive}
 use Rattle.dimacs.proofs.put_literal.Goals as goal
-
-pub returns-then-is_negated : goal.returns-then-is_negated
-returns-then-is_negated c =
-    wrote_negated _ _ c.number-n.ensures (sym c.is_negated.ensures ∙ c.if-is_negated.true) c.put-to.ensures c.put_decimal.ensures
+use Rattle.dimacs.proofs.put_literal.Goals.{then-is_negated, else-is_negated}
 
 pub returns : goal.returns
 returns c =
-    wrote_positive _ _ c.number-n.ensures (sym c.is_negated.ensures ∙ c.if-is_negated.false) c.put_decimal-2.ensures
+    let n = c.number.ensures in
+    let d = c.put_decimal.ensures in
+    let e = sym c.is_negated.ensures in
+    elim c.if-is_negated.branch [
+      | then-is_negated w ↦ wrote_negated _ n d (e ∙ w.if-is_negated.true) w.w-is w.put.ensures
+      | else-is_negated w ↦ wrote_positive _ n d (e ∙ w.if-is_negated.false) w.w-is
+    ]

@@ -8,7 +8,4 @@ use Rattle.dimacs.proofs.lengths.clauses_length.Given as goal
 
 abbrev pub invariant-loop-k : goal.invariant-loop-k
 invariant-loop-k l =
-    (l.k ≤ l.count) × (l.size ≤ 201326594 * l.k) × (l.size + length (clauses (clauses_from l.lits l.ends l.k (l.count - l.k))) ≡ length (clauses (clauses_from l.lits l.ends 0 l.count)))
-
-abbrev pub decreases-loop-k : goal.decreases-loop-k
-decreases-loop-k l = l.count - l.k
+    (l.size ≤ 201326594 * l.k) × (l.size + length (clauses (clauses_from l.lits l.ends l.k (l.count - l.k))) ≡ length (clauses (clauses_from l.lits l.ends 0 l.count)))
