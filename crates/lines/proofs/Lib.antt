@@ -3,6 +3,6 @@ pub mod Steps
 pub mod Tokens
 pub mod Reading
 pub mod Words
-pub mod Lists
 pub mod ReadBack
 pub mod Examples
+pub mod Lists

@@ -1,4 +1,5 @@
 -- A line read byte after byte says what it says as a whole: its integers, its word, and whether it is empty.
+use Rattle.std.proofs.Common.{Option, Some, None}
 use Prim.Native.Nat.{ℕ, zero, suc, ◌+◌, ◌-◌, ◌≤◌, ◌<◌}
 use native.Mathlib.Omega.{arith}
 use native.Mathlib.Numerals.{add-one}
@@ -10,8 +11,6 @@ use lib.IntN.{ℤ}
 use lib.ListN.{length, take, length-set}
 use lib.Seq.{take-suc-set}
 use borrow.Author.Tests.{ltb-true, ltb-false}
-use Rattle.lines.specs.declared.Integer.{Integer}
-use Rattle.lines.specs.declared.Integer.TheVariants.{Value, Outside}
 use Rattle.lines.specs.declared.Numeral.{Numeral}
 use Rattle.lines.specs.declared.Numeral.TheVariants.{Empty}
 use Rattle.lines.specs.declared.Word.{Word}
@@ -57,13 +56,13 @@ numeral_last n [] b = refl
 numeral_last n (a ∷ bs) b = numeral_last (numeral_more n a) bs b
 
 -- what cannot be read stays so
-unread_keep : (i : Integer) (g : Numbered) → g.numbers.good ≡ false → (keep i g).numbers.good ≡ false
-unread_keep (Value z) g e = by (ltb g.numbers.count (length g.nums))
+unread_keep : (i : Option ℤ) (g : Numbered) → g.numbers.good ≡ false → (keep i g).numbers.good ≡ false
+unread_keep (Some z) g e = by (ltb g.numbers.count (length g.nums))
   where
     by : (t : Bool) → (cond t (stored z g) (spoiled g)).numbers.good ≡ false
     by true = e
     by false = refl
-unread_keep Outside g e = refl
+unread_keep None g e = refl
 
 unread_more : (g : Numbered) (b : ℕ) → g.numbers.good ≡ false → (number_more g b).numbers.good ≡ false
 unfolding number_more number_whole
@@ -94,7 +93,7 @@ rest_of g ts = behind (take g.numbers.count g.nums) (numbers_of (length g.nums -
 behind_none : (zs : List ℤ) → behind zs (integers []) ≡ integers zs
 behind_none zs = ap integers (append-nil zs)
 
-behind_first : (zs : List ℤ) (z : ℤ) (r : Read) → behind zs (with_first (Value z) r) ≡ behind (zs ++ (z ∷ [])) r
+behind_first : (zs : List ℤ) (z : ℤ) (r : Read) → behind zs (with_first (Some z) r) ≡ behind (zs ++ (z ∷ [])) r
 behind_first zs z (integers ys) = ap integers (sym (append_assoc zs (z ∷ []) ys))
 behind_first zs z unread = refl
 
@@ -111,7 +110,7 @@ module _ (g : Numbered) (p : List ℕ) (k : Going g p) where
   unfolding numeral_from
   kept_going z h = record { good = k.good; within = rw (length-set g.nums g.numbers.count z) (omega arith); numeral = refl }
 
-  kept_rest : (z : ℤ) (ts : List (List ℕ)) → token_integer p ≡ Value z → g.numbers.count < length g.nums
+  kept_rest : (z : ℤ) (ts : List (List ℕ)) → token_integer p ≡ Some z → g.numbers.count < length g.nums
       → rest_of g (p ∷ ts) ≡ rest_of (stored z g) ts
   unfolding numbers_of
   kept_rest z ts e h =
@@ -121,7 +120,7 @@ module _ (g : Numbered) (p : List ℕ) (k : Going g p) where
       (behind_first (take n g.nums) z (numbers_of (length g.nums - (n + 1)) ts))
 
   -- it is none
-  outside_rest : (ts : List (List ℕ)) → token_integer p ≡ Outside → rest_of g (p ∷ ts) ≡ unread
+  outside_rest : (ts : List (List ℕ)) → token_integer p ≡ None → rest_of g (p ∷ ts) ≡ unread
   unfolding numbers_of
   outside_rest ts e = by (length g.nums - g.numbers.count)
     where
@@ -143,14 +142,14 @@ data Ended (g : Numbered) (p : List ℕ) : Type 0 where
 ended : (g : Numbered) (p : List ℕ) → Going g p → Ended g p
 ended g p k = by (token_integer p) refl (ltb g.numbers.count (length g.nums)) refl
   where
-    by : (i : Integer) → token_integer p ≡ i → (t : Bool) → ltb g.numbers.count (length g.nums) ≡ t → Ended g p
-    by (Value z) e true h =
+    by : (i : Option ℤ) → token_integer p ≡ i → (t : Bool) → ltb g.numbers.count (length g.nums) ≡ t → Ended g p
+    by (Some z) e true h =
         let l = ltb-true g.numbers.count (length g.nums) h in
         kept z (keep_value g (token_is g p k ∙ e) l) (kept_going g p k z l) (λ ts. kept_rest g p k z ts e l)
-    by (Value z) e false h =
+    by (Some z) e false h =
         let l = ltb-false g.numbers.count (length g.nums) h in
         lost (keep_full g (token_is g p k ∙ e) l) (λ ts. full_rest g p k ts l)
-    by Outside e t h = lost (keep_outside g (token_is g p k ∙ e)) (λ ts. outside_rest g p k ts e)
+    by None e t h = lost (keep_outside g (token_is g p k ∙ e)) (λ ts. outside_rest g p k ts e)
 
 more_space : (g : Numbered) (b : ℕ) → eqb b 32 ≡ true → number_more g b ≡ number_whole g
 unfolding number_more

@@ -1,5 +1,6 @@
 -- One byte more: laws for the code's cases.
-use Prim.Native.Nat.{ℕ, zero, suc, ◌+◌, ◌-◌, ◌≤◌, ◌<◌}
+use Rattle.std.proofs.Common.{Option, Some, None}
+use Prim.Native.Nat.{ℕ, suc, ◌+◌, ◌-◌, ◌≤◌, ◌<◌}
 use native.Mathlib.Omega.{arith}
 use mathlib.Core.Path.{◌≡◌, refl, sym, ap, subst, ◌∙◌}
 use mathlib.Core.Bool.{Bool, true, false, not, ◌&&◌, cond, true≢false}
@@ -7,23 +8,20 @@ use lib.IntN.{ℤ, pos, neg_ℤ, ◌-ℤ◌}
 use lib.ListN.{length, drop, get_or, length-drop, length-set}
 use lib.Seq.{take-suc, get_or-drop}
 use mathlib.Core.List.{List, [], ◌∷◌, ◌++◌}
-use native.Mathlib.Numerals.{add-one}
 use lib.Dec.{leb, ltb, eqb}
 use mir.Syntax.{w64}
 use mir.Val.{to_z, of_z}
 use mir.ValLaws.{to_z-of_z}
-use borrow.Author.Tests.{lt-ltb, le-ltb, ltb-true, lt-leb, le-leb, leb-true, eq-eqb, ne_eqb, eqb-true, eqb-false}
+use borrow.Author.Tests.{lt-ltb, le-ltb, ltb-true, lt-leb, le-leb, leb-true, eq-eqb, ne_eqb}
 use Rattle.lines.specs.Integers.{is_digit}
 use Rattle.lines.proofs.Signs.{as_i64, negated, negated_fits}
 use Rattle.lines.specs.Numerals.{numeral_more, numeral_integer, with_digit, with_other}
-use Rattle.lines.specs.Lines.{Feeding, Lined, Numbered, Within, is_empty, keep, line_from, line_more, line_whole, lined, none_kept, number_more, number_whole, numbered, one_line, between, same_below, spoiled, stored, with_numbers, word_more}
+use Rattle.lines.specs.Lines.{Feeding, Lined, Numbered, Within, is_empty, keep, line_from, line_more, line_whole, lined, none_kept, number_more, number_whole, numbered, one_line, between, spoiled, stored, with_numbers, word_more}
 use Rattle.lines.specs.declared.Line.{Line}
 use Rattle.lines.specs.declared.Numbers.{Numbers}
 use Rattle.lines.specs.declared.Word.{Word}
 use Rattle.lines.specs.declared.Numeral.{Numeral}
 use Rattle.lines.specs.declared.Numeral.TheVariants.{Empty, Minus, Positive, Negative, Other}
-use Rattle.lines.specs.declared.Integer.{Integer}
-use Rattle.lines.specs.declared.Integer.TheVariants.{Value, Outside}
 
 pub and_left : (a b : Bool) → (a && b) ≡ true → a ≡ true
 and_left true b p = refl
@@ -58,19 +56,19 @@ other_always Other b h = refl
 pub more_none : (n : Numeral) (b : ℕ) → is_digit b ≡ false → (b ≡ 45 → ⊥) → Other ≡ numeral_more n b
 more_none n b d h = sym (more_other n b d ∙ other_always n b h)
 
-pub integer_positive : (v : ℕ) → v ≤ 4294967295 → Value (to_z w64 v) ≡ numeral_integer (Positive v)
+pub integer_positive : (v : ℕ) → v ≤ 4294967295 → Some (to_z w64 v) ≡ numeral_integer (Positive v)
 unfolding numeral_integer
 integer_positive v h = rw (as_i64 v h, le-leb v 4294967295 h)
 
-pub integer_large : (v : ℕ) → 4294967295 < v → Outside ≡ numeral_integer (Positive v)
+pub integer_large : (v : ℕ) → 4294967295 < v → None ≡ numeral_integer (Positive v)
 unfolding numeral_integer
 integer_large v h = rw (lt-leb v 4294967295 h)
 
-pub integer_negative : (v : ℕ) → v ≤ 2147483648 → Value (to_z w64 (of_z w64 (pos 0 -ℤ to_z w64 v))) ≡ numeral_integer (Negative v)
+pub integer_negative : (v : ℕ) → v ≤ 2147483648 → Some (to_z w64 (of_z w64 (pos 0 -ℤ to_z w64 v))) ≡ numeral_integer (Negative v)
 unfolding numeral_integer
 integer_negative v h = rw (negated v h, to_z-of_z w64 (neg_ℤ (pos v)) (negated_fits v h), le-leb v 2147483648 h)
 
-pub integer_low : (v : ℕ) → 2147483648 < v → Outside ≡ numeral_integer (Negative v)
+pub integer_low : (v : ℕ) → 2147483648 < v → None ≡ numeral_integer (Negative v)
 unfolding numeral_integer
 integer_low v h = rw (lt-leb v 2147483648 h)
 
@@ -78,51 +76,39 @@ integer_low v h = rw (lt-leb v 2147483648 h)
 pub digit_behind : {n m : Numeral} (b : ℕ) → is_digit b ≡ true → n ≡ m → with_digit m b ≡ numeral_more n b
 digit_behind {n} {m} b d e = sym (more_digit n b d ∙ ap (λ (k : Numeral). with_digit k b) e)
 
+pub minus_other : (n : Numeral) → (n ≡ Empty → ⊥) → Other ≡ numeral_more n 45
+unfolding numeral_more
+minus_other Empty h = absurd (h refl)
+minus_other Minus h = refl
+minus_other (Positive v) h = refl
+minus_other (Negative v) h = refl
+minus_other Other h = refl
+
 pub minus_behind : {n m : Numeral} → n ≡ m → with_other m 45 ≡ numeral_more n 45
 unfolding numeral_more
 minus_behind {n} {m} e = sym (ap (λ (k : Numeral). with_other k 45) e)
 
 -- Numbers --------------------------------------------------------------------------------------------------------------
 
-pub keep_outside : (g : Numbered) → numeral_integer g.numbers.numeral ≡ Outside → number_whole g ≡ spoiled g
+pub keep_outside : (g : Numbered) → numeral_integer g.numbers.numeral ≡ None → number_whole g ≡ spoiled g
 unfolding number_whole
 keep_outside g e = rw e
 
-pub keep_full : (g : Numbered) {z : ℤ} → numeral_integer g.numbers.numeral ≡ Value z → length g.nums ≤ g.numbers.count
+pub keep_full : (g : Numbered) {z : ℤ} → numeral_integer g.numbers.numeral ≡ Some z → length g.nums ≤ g.numbers.count
     → number_whole g ≡ spoiled g
 unfolding number_whole
 keep_full g e h = rw (e, le-ltb g.numbers.count (length g.nums) h)
 
-pub keep_value : (g : Numbered) {z : ℤ} → numeral_integer g.numbers.numeral ≡ Value z → g.numbers.count < length g.nums
+pub keep_value : (g : Numbered) {z : ℤ} → numeral_integer g.numbers.numeral ≡ Some z → g.numbers.count < length g.nums
     → number_whole g ≡ stored z g
 unfolding number_whole
 keep_value g e h = rw (e, lt-ltb g.numbers.count (length g.nums) h)
 
 -- Words ----------------------------------------------------------------------------------------------------------------
 
-pub same_more : (bs cs : List ℕ) (i : ℕ) → same_below i bs cs ≡ true → get_or bs i 0 ≡ get_or cs i 0 → same_below (i + 1) bs cs ≡ true
-unfolding same_below
-same_more bs cs i s e = rw (add-one i, s, eq-eqb (get_or bs i 0) (get_or cs i 0) e)
-
 pub and_false : (a : Bool) → (a && false) ≡ false
 and_false true = refl
 and_false false = refl
-
--- a difference at i shows in any n above i
-pub same_not : (bs cs : List ℕ) (i n : ℕ) → i < n → (get_or bs i 0 ≡ get_or cs i 0 → ⊥) → same_below n bs cs ≡ false
-unfolding same_below
-same_not bs cs i zero h d = absurd (omega arith)
-same_not bs cs i (suc n) h d = by (eqb i n) refl (λ k. same_not bs cs i n k d)
-  where
-    by : (t : Bool) → eqb i n ≡ t → (i < n → same_below n bs cs ≡ false) → (same_below n bs cs && eqb (get_or bs n 0) (get_or cs n 0)) ≡ false
-    by true e f =
-        let q : i ≡ n = eqb-true i n e in
-        let w = ne_eqb (get_or bs i 0) (get_or cs i 0) d in
-        rw (rw q at w) (and_false (same_below n bs cs))
-    by false e f =
-        let q = eqb-false i n e in
-        let k : i < n = omega (arith, q) in
-        rw (f k)
 
 -- Lines ----------------------------------------------------------------------------------------------------------------
 
@@ -137,7 +123,7 @@ number_byte g b h e = rw (ne_eqb b 32 h, e)
 
 pub line_behind : (k : Lined) (b : ℕ) {xs : List ℤ} {n : Numbers} → k.line.behind ≡ true
     → numbered xs n ≡ number_more (numbered k.nums k.line.numbers) b
-    → lined xs (record { word = k.line.word; behind = true; numbers = n }) ≡ line_more k b
+    → lined xs (record { word = k.line.word; behind = k.line.behind; numbers = n }) ≡ line_more k b
 unfolding line_more
 line_behind k b e q = rw e (ap (with_numbers k.line.word) q)
 
@@ -147,29 +133,29 @@ unfolding line_more
 line_space k b e q = rw (e, eq-eqb b 32 q)
 
 pub line_letter : (k : Lined) (b : ℕ) {w : Word} → k.line.behind ≡ false → (b ≡ 32 → ⊥) → w ≡ word_more k.line.word b
-    → lined k.nums (record { word = w; behind = false; numbers = k.line.numbers }) ≡ line_more k b
+    → lined k.nums (record { word = w; behind = k.line.behind; numbers = k.line.numbers }) ≡ line_more k b
 unfolding line_more
 line_letter k b e h q = rw (e, ne_eqb b 32 h, q)
 
 pub whole_behind : (k : Lined) {xs : List ℤ} {n : Numbers} → k.line.behind ≡ true
     → numbered xs n ≡ number_whole (numbered k.nums k.line.numbers)
-    → lined xs (record { word = k.line.word; behind = true; numbers = n }) ≡ line_whole k
+    → lined xs (record { word = k.line.word; behind = k.line.behind; numbers = n }) ≡ line_whole k
 unfolding line_whole
 whole_behind k e q = rw e (ap (with_numbers k.line.word) q)
 
-pub whole_word : (k : Lined) {n : Numbers} → k.line.behind ≡ false → n ≡ none_kept k.line.numbers
-    → lined k.nums (record { word = k.line.word; behind = false; numbers = n }) ≡ line_whole k
+pub whole_word : (k : Lined) {xs : List ℤ} {n : Numbers} → k.line.behind ≡ false → xs ≡ k.nums → n ≡ none_kept k.line.numbers
+    → lined xs (record { word = k.line.word; behind = k.line.behind; numbers = n }) ≡ line_whole k
 unfolding line_whole
-whole_word k e q = rw (e, q)
+whole_word k e p q = rw (e, p, q)
 
-kept_within : (i : Integer) (g : Numbered) → (keep i g).numbers.good ≡ true → (keep i g).numbers.count ≤ length (keep i g).nums
-kept_within (Value z) g e = by (ltb g.numbers.count (length g.nums)) refl e
+kept_within : (i : Option ℤ) (g : Numbered) → (keep i g).numbers.good ≡ true → (keep i g).numbers.count ≤ length (keep i g).nums
+kept_within (Some z) g e = by (ltb g.numbers.count (length g.nums)) refl e
   where
     by : (t : Bool) → ltb g.numbers.count (length g.nums) ≡ t → (cond t (stored z g) (spoiled g)).numbers.good ≡ true
         → (cond t (stored z g) (spoiled g)).numbers.count ≤ length (cond t (stored z g) (spoiled g)).nums
     by true h q = let l = ltb-true g.numbers.count (length g.nums) h in rw (length-set g.nums g.numbers.count z) (omega arith)
     by false h q = absurd (true≢false (sym q))
-kept_within Outside g e = absurd (true≢false (sym e))
+kept_within None g e = absurd (true≢false (sym e))
 
 whole_within : (k : Lined) → Within (line_whole k)
 unfolding line_whole number_whole

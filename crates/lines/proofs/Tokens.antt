@@ -1,4 +1,5 @@
 -- A token read byte after byte is the integer that its bytes say.
+use Rattle.std.proofs.Common.{Some, None}
 use Prim.Native.Nat.{ℕ, zero, suc, ◌+◌, ◌-◌, ◌*◌, ◌≤◌, ◌<◌, min}
 use native.Mathlib.Omega.{arith}
 use mathlib.Core.Path.{◌≡◌, refl}
@@ -9,7 +10,6 @@ use lib.IntN.{pos, neg_ℤ}
 use borrow.Author.Tests.{lt-leb, le-leb, leb-true, leb-false, eqb-true, eqb-false}
 use Rattle.text.specs.Decimal.{digits_value}
 use Rattle.lines.specs.Integers.{all_digits, in_range, integer_value, is_digit, is_integer, some_digits}
-use Rattle.lines.specs.declared.Integer.TheVariants.{Value, Outside}
 use Rattle.lines.specs.declared.Numeral.{Numeral}
 use Rattle.lines.specs.declared.Numeral.TheVariants.{Empty, Minus, Positive, Negative, Other}
 use Rattle.lines.specs.Numerals.{grown, numeral_from, numeral_integer, numeral_more, token_integer, with_digit, with_other}
@@ -51,12 +51,12 @@ negative_digits : (n : ℕ) (bs : List ℕ) → numeral_from (Negative (min n mo
 negative_digits = from_digits Negative (λ v b. refl) (λ v b. refl)
 
 -- the integer of a numeral that was cut to the bound
-positive_integer : (n : ℕ) → numeral_integer (Positive (min n most)) ≡ cond (in_range (pos n)) (Value (pos n)) Outside
+positive_integer : (n : ℕ) → numeral_integer (Positive (min n most)) ≡ cond (in_range (pos n)) (Some (pos n)) None
 unfolding numeral_integer
 positive_integer n = by (leb n 4294967295) refl
   where
     by : (t : Bool) → leb n 4294967295 ≡ t
-        → cond (leb (min n most) 4294967295) (Value (pos (min n most))) Outside ≡ cond (leb n 4294967295) (Value (pos n)) Outside
+        → cond (leb (min n most) 4294967295) (Some (pos (min n most))) None ≡ cond (leb n 4294967295) (Some (pos n)) None
     by true e =
         let h : n ≤ 4294967295 = leb-true n 4294967295 e in
         let m : min n most ≡ n = omega arith in
@@ -77,12 +77,12 @@ negative_range (suc n) = by (leb n 2147483647) refl
         let h : 2147483647 < n = leb-false n 2147483647 e in
         rw (e, lt-leb (suc n) 2147483648 (omega arith))
 
-negative_integer : (n : ℕ) → numeral_integer (Negative (min n most)) ≡ cond (in_range (neg_ℤ (pos n))) (Value (neg_ℤ (pos n))) Outside
+negative_integer : (n : ℕ) → numeral_integer (Negative (min n most)) ≡ cond (in_range (neg_ℤ (pos n))) (Some (neg_ℤ (pos n))) None
 unfolding numeral_integer
 negative_integer n = rw (negative_range n) (by (leb n 2147483648) refl)
   where
     by : (t : Bool) → leb n 2147483648 ≡ t
-        → cond (leb (min n most) 2147483648) (Value (neg_ℤ (pos (min n most)))) Outside ≡ cond (leb n 2147483648) (Value (neg_ℤ (pos n))) Outside
+        → cond (leb (min n most) 2147483648) (Some (neg_ℤ (pos (min n most)))) None ≡ cond (leb n 2147483648) (Some (neg_ℤ (pos n))) None
     by true e =
         let h : n ≤ 2147483648 = leb-true n 2147483648 e in
         let m : min n most ≡ n = omega arith in
@@ -93,35 +93,35 @@ negative_integer n = rw (negative_range n) (by (leb n 2147483648) refl)
 
 -- digits, one at least, with no minus and behind one
 positive_reads : (bs : List ℕ) (n : ℕ)
-    → numeral_integer (cond (all_digits bs) (Positive (min n most)) Other) ≡ cond (all_digits bs && in_range (pos n)) (Value (pos n)) Outside
+    → numeral_integer (cond (all_digits bs) (Positive (min n most)) Other) ≡ cond (all_digits bs && in_range (pos n)) (Some (pos n)) None
 unfolding numeral_integer
 positive_reads bs n = by (all_digits bs)
   where
-    by : (t : Bool) → numeral_integer (cond t (Positive (min n most)) Other) ≡ cond (t && in_range (pos n)) (Value (pos n)) Outside
+    by : (t : Bool) → numeral_integer (cond t (Positive (min n most)) Other) ≡ cond (t && in_range (pos n)) (Some (pos n)) None
     by true = positive_integer n
     by false = refl
 
 negative_reads : (bs : List ℕ) (n : ℕ)
     → numeral_integer (cond (all_digits bs) (Negative (min n most)) Other)
-    ≡ cond (all_digits bs && in_range (neg_ℤ (pos n))) (Value (neg_ℤ (pos n))) Outside
+    ≡ cond (all_digits bs && in_range (neg_ℤ (pos n))) (Some (neg_ℤ (pos n))) None
 unfolding numeral_integer
 negative_reads bs n = by (all_digits bs)
   where
-    by : (t : Bool) → numeral_integer (cond t (Negative (min n most)) Other) ≡ cond (t && in_range (neg_ℤ (pos n))) (Value (neg_ℤ (pos n))) Outside
+    by : (t : Bool) → numeral_integer (cond t (Negative (min n most)) Other) ≡ cond (t && in_range (neg_ℤ (pos n))) (Some (neg_ℤ (pos n))) None
     by true = negative_integer n
     by false = refl
 
 -- behind a minus
 minus_reads : (bs : List ℕ)
     → numeral_integer (numeral_from Minus bs)
-    ≡ cond (some_digits bs && in_range (neg_ℤ (pos (digits_value 0 bs)))) (Value (neg_ℤ (pos (digits_value 0 bs)))) Outside
+    ≡ cond (some_digits bs && in_range (neg_ℤ (pos (digits_value 0 bs)))) (Some (neg_ℤ (pos (digits_value 0 bs)))) None
 unfolding numeral_from numeral_integer all_digits digits_value
 minus_reads [] = refl
 minus_reads (b ∷ bs) = by (is_digit b) refl
   where
     by : (t : Bool) → is_digit b ≡ t
         → numeral_integer (numeral_from (numeral_more Minus b) bs)
-        ≡ cond (all_digits (b ∷ bs) && in_range (neg_ℤ (pos (digits_value 0 (b ∷ bs))))) (Value (neg_ℤ (pos (digits_value 0 (b ∷ bs))))) Outside
+        ≡ cond (all_digits (b ∷ bs) && in_range (neg_ℤ (pos (digits_value 0 (b ∷ bs))))) (Some (neg_ℤ (pos (digits_value 0 (b ∷ bs))))) None
     by true e = rw (more_digit Minus b e, e, negative_digits (10 * 0 + (b - 48)) bs) (negative_reads bs (digits_value (10 * 0 + (b - 48)) bs))
     by false e = rw (more_other Minus b e, e, from_other bs)
 
@@ -133,7 +133,7 @@ token_reads (b ∷ bs) = by (eqb b 45) refl (is_digit b) refl
   where
     by : (s : Bool) → eqb b 45 ≡ s → (t : Bool) → is_digit b ≡ t
         → numeral_integer (numeral_from (numeral_more Empty b) bs)
-        ≡ cond (is_integer (b ∷ bs) && in_range (integer_value (b ∷ bs))) (Value (integer_value (b ∷ bs))) Outside
+        ≡ cond (is_integer (b ∷ bs) && in_range (integer_value (b ∷ bs))) (Some (integer_value (b ∷ bs))) None
     by true p t e =
         let q : b ≡ 45 = eqb-true b 45 p in
         rw (more_other Empty b (rw q), p) (minus_reads bs)

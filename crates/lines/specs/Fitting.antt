@@ -1,25 +1,37 @@
 -- The numbers of a line, as the types that a call takes.
-use Rattle.std.specs.Prelude.{ℕ, ◌≡◌, Bool, true, false, ◌&&◌, cond, List, [], ◌∷◌, map, leb, ltb, ℤ, pos, negsuc, length, get_or, take}
-use Rattle.lines.specs.declared.fitting.Unsigned.{Unsigned}
-use Rattle.lines.specs.declared.fitting.Unsigned.TheVariants as u
-use Rattle.lines.specs.declared.fitting.Signed.{Signed}
-use Rattle.lines.specs.declared.fitting.Signed.TheVariants as i
+use Rattle.std.specs.Prelude.{ℕ, ◌<◌, ◌≡◌, Bool, true, false, ◌&&◌, ◌⊎◌, cond, List, [], ◌∷◌, map, leb, ltb, ℤ, pos, negsuc, length, get_or, take, slice_get, Option, Some, None, MatchOption, Result, Ok, Err, ⊤}
+use Rattle.std.specs.Result.{result_ok}
+
+-- a number of a line as a type, where `gives` is what the type's conversion gives: there is none where the line ends before it or it does not fit
+abbrev pub NumberAt : {A E : Type 0} → (ℤ → Result A E → Type 0) → List ℤ → ℕ → Option A → Type 0
+NumberAt {A} {E} gives nums k r = MatchOption (slice_get nums k) (r ≡ None) (λ z. (t : Result A E) × gives z t × (r ≡ result_ok t))
+
+-- each number converts to the entry in its place
+unfoldable pub AllConverted : {A E : Type 0} → (ℤ → Result A E → Type 0) → List ℤ → List A → Type 0
+AllConverted gives [] [] = ⊤
+AllConverted gives [] (x ∷ xs) = ⊥
+AllConverted gives (z ∷ zs) [] = ⊥
+AllConverted gives (z ∷ zs) (x ∷ xs) = gives z (Ok x) × AllConverted gives zs xs
+
+-- there are more than the room, or one does not convert
+abbrev pub NotConverted : {A E : Type 0} → (ℤ → Result A E → Type 0) → List ℤ → ℕ → Type 0
+NotConverted {A} {E} gives nums room = (room < length nums) ⊎ ((k : ℕ) × (e : E) × (k < length nums) × gives (get_or nums k (pos 0)) (Err e))
 
 -- z as a u32, and as an i32
-unfoldable pub unsigned_of : ℤ → Unsigned
-unsigned_of (pos n) = cond (ltb n 4294967296) (u.Value n) u.Outside
-unsigned_of (negsuc n) = u.Outside
+unfoldable pub unsigned_of : ℤ → Option ℕ
+unsigned_of (pos n) = cond (ltb n 4294967296) (Some n) None
+unsigned_of (negsuc n) = None
 
-unfoldable pub signed_of : ℤ → Signed
-signed_of (pos n) = cond (ltb n 2147483648) (i.Value (pos n)) i.Outside
-signed_of (negsuc n) = cond (ltb n 2147483648) (i.Value (negsuc n)) i.Outside
+unfoldable pub signed_of : ℤ → Option ℤ
+signed_of (pos n) = cond (ltb n 2147483648) (Some (pos n)) None
+signed_of (negsuc n) = cond (ltb n 2147483648) (Some (negsuc n)) None
 
 -- number k of a line, if the line has it and it fits
-abbrev pub unsigned_at : List ℤ → ℕ → Unsigned
-unsigned_at nums k = cond (ltb k (length nums)) (unsigned_of (get_or nums k (pos 0))) u.Outside
+abbrev pub unsigned_at : List ℤ → ℕ → Option ℕ
+unsigned_at nums k = cond (ltb k (length nums)) (unsigned_of (get_or nums k (pos 0))) None
 
-abbrev pub signed_at : List ℤ → ℕ → Signed
-signed_at nums k = cond (ltb k (length nums)) (signed_of (get_or nums k (pos 0))) i.Outside
+abbrev pub signed_at : List ℤ → ℕ → Option ℤ
+signed_at nums k = cond (ltb k (length nums)) (signed_of (get_or nums k (pos 0))) None
 
 unfoldable pub is_i32 : ℤ → Bool
 is_i32 (pos n) = ltb n 2147483648

@@ -1,7 +1,6 @@
 -- A line read byte after byte: its word, and its integers in a lent slice.
+use Rattle.std.specs.Prelude.{Option, Some, None}
 use Rattle.std.specs.Prelude.{ℕ, zero, suc, ◌+◌, ◌-◌, ◌≤◌, min, ◌≡◌, Bool, true, false, not, ◌&&◌, cond, ◌⊎◌, List, [], ◌∷◌, leb, ltb, eqb, ℤ, length, set, get_or, replicate, take, drop}
-use Rattle.lines.specs.declared.Integer.{Integer}
-use Rattle.lines.specs.declared.Integer.TheVariants.{Value, Outside}
 use Rattle.lines.specs.declared.Numeral.TheVariants.{Empty}
 use Rattle.lines.specs.declared.Word.{Word}
 use Rattle.lines.specs.declared.Numbers.{Numbers}
@@ -42,9 +41,9 @@ abbrev pub stored : ℤ → Numbered → Numbered
 stored z g =
     numbered (set g.nums g.numbers.count z) (record { count = g.numbers.count + 1; good = g.numbers.good; numeral = Empty })
 
-abbrev pub keep : Integer → Numbered → Numbered
-keep (Value z) g = cond (ltb g.numbers.count (length g.nums)) (stored z g) (spoiled g)
-keep Outside g = spoiled g
+abbrev pub keep : Option ℤ → Numbered → Numbered
+keep (Some z) g = cond (ltb g.numbers.count (length g.nums)) (stored z g) (spoiled g)
+keep None g = spoiled g
 
 -- the token ends, and its integer is kept
 unfoldable pub number_whole : Numbered → Numbered

@@ -1,14 +1,13 @@
 -- A token read byte after byte, and the integer that it is.
+use Rattle.std.specs.Prelude.{Option, Some, None, ℤ}
 use Rattle.std.specs.Prelude.{ℕ, ◌+◌, ◌-◌, ◌*◌, min, ◌&&◌, cond, List, [], ◌∷◌, leb, eqb, pos, neg_ℤ}
 use Rattle.lines.specs.Integers.{is_digit, is_integer, integer_value, in_range}
 use Rattle.lines.specs.declared.Numeral.{Numeral}
 use Rattle.lines.specs.declared.Numeral.TheVariants.{Empty, Minus, Positive, Negative, Other}
-use Rattle.lines.specs.declared.Integer.{Integer}
-use Rattle.lines.specs.declared.Integer.TheVariants.{Value, Outside}
 
 -- the integer that a token is, if it is one from -2147483648 to 4294967295
-unfoldable pub token_integer : List ℕ → Integer
-token_integer bs = cond (is_integer bs && in_range (integer_value bs)) (Value (integer_value bs)) Outside
+unfoldable pub token_integer : List ℕ → Option ℤ
+token_integer bs = cond (is_integer bs && in_range (integer_value bs)) (Some (integer_value bs)) None
 
 -- what digits that say v say with the digit b behind them, at most 4294967296
 abbrev pub grown : ℕ → ℕ → ℕ
@@ -36,9 +35,9 @@ unfoldable pub numeral_from : Numeral → List ℕ → Numeral
 numeral_from n [] = n
 numeral_from n (b ∷ bs) = numeral_from (numeral_more n b) bs
 
-unfoldable pub numeral_integer : Numeral → Integer
-numeral_integer Empty = Outside
-numeral_integer Minus = Outside
-numeral_integer (Positive v) = cond (leb v 4294967295) (Value (pos v)) Outside
-numeral_integer (Negative v) = cond (leb v 2147483648) (Value (neg_ℤ (pos v))) Outside
-numeral_integer Other = Outside
+unfoldable pub numeral_integer : Numeral → Option ℤ
+numeral_integer Empty = None
+numeral_integer Minus = None
+numeral_integer (Positive v) = cond (leb v 4294967295) (Some (pos v)) None
+numeral_integer (Negative v) = cond (leb v 2147483648) (Some (neg_ℤ (pos v))) None
+numeral_integer Other = None

@@ -1,7 +1,6 @@
 -- What a line says as a whole. The theorems of proofs/Reading say that a line read byte after byte says the same.
+use Rattle.std.specs.Prelude.{Option, Some, None}
 use Rattle.std.specs.Prelude.{ℕ, zero, suc, cond, List, [], ◌∷◌, eqb, ℤ, take}
-use Rattle.lines.specs.declared.Integer.{Integer}
-use Rattle.lines.specs.declared.Integer.TheVariants.{Value, Outside}
 use Rattle.lines.specs.Numerals.{token_integer}
 use Rattle.lines.specs.Lines.{Numbered}
 
@@ -39,10 +38,10 @@ pub data Read : Type 0 where
   integers : List ℤ → Read
   unread : Read
 
-abbrev pub with_first : Integer → Read → Read
-with_first (Value z) (integers zs) = integers (z ∷ zs)
-with_first (Value z) unread = unread
-with_first Outside r = unread
+abbrev pub with_first : Option ℤ → Read → Read
+with_first (Some z) (integers zs) = integers (z ∷ zs)
+with_first (Some z) unread = unread
+with_first None r = unread
 
 -- each token is an integer, and there are at most n
 unfoldable pub numbers_of : ℕ → List (List ℕ) → Read

@@ -6,9 +6,9 @@ mod fitting;
 ghost use Rattle.std.specs.Prelude.{◌≡◌, true, false, ◌≤◌, length};
 ghost use Rattle.lines.specs.Integers.{is_digit};
 ghost use Rattle.lines.specs.Numerals.{grown, numeral_more, numeral_integer};
-ghost use Rattle.lines.specs.Lines.{FedBy, Within, is_empty, is_word, line_more, line_start, line_whole, lined, none_kept, number_more, number_whole, numbered, word_more};
+ghost use Rattle.lines.specs.Lines.{FedBy, Within, is_empty, is_word, line_more, line_start, line_whole, lined, number_more, number_whole, numbered, word_more};
 
-pub use fitting::{Signed, Unsigned, byte_list, signed_at, signed_list, unsigned_at};
+pub use fitting::{number_at, number_list};
 
 // What the bytes of a token say so far.
 #[derive(Clone, Copy)]
@@ -24,27 +24,11 @@ pub enum Numeral {
     Other,
 }
 
-// The integer that a token is, if it is one from -2147483648 to 4294967295.
-#[derive(Clone, Copy)]
-pub enum Integer {
-    Value(i64),
-    Outside,
-}
-
 // Whether b is a digit in ASCII.
 pub fn is_digit(b: u8) -> bool
     ensures { result ≡ is_digit b }
 {
-    if b < b'0' {
-        return false;
-    }
-    b <= b'9'
-}
-
-fn wide(b: u8) -> u64
-    ensures { result ≡ b }
-{
-    b as u64
+    b.is_ascii_digit()
 }
 
 // What digits that say v say with one more digit behind them, at most 4294967296.
@@ -52,14 +36,8 @@ fn grown(v: u64, b: u8) -> u64
     requires { is_digit b ≡ true }
     ensures { result ≡ grown v b }
 {
-    if v > 429496729 {
-        return 4294967296;
-    }
-    let x = 10 * v + (wide(b) - 48);
-    if x > 4294967296 {
-        return 4294967296;
-    }
-    x
+    let x = v.saturating_mul(10).saturating_add(u64::from(b - b'0'));
+    x.min(4294967296)
 }
 
 // A token with a digit behind it.
@@ -82,10 +60,7 @@ fn with_minus(n: Numeral) -> Numeral
 {
     match n {
         Numeral::Empty => Numeral::Minus,
-        Numeral::Minus => Numeral::Other,
-        Numeral::Positive(_) => Numeral::Other,
-        Numeral::Negative(_) => Numeral::Other,
-        Numeral::Other => Numeral::Other,
+        _ => Numeral::Other,
     }
 }
 
@@ -102,25 +77,15 @@ fn numeral_more(n: Numeral, b: u8) -> Numeral
     Numeral::Other
 }
 
-fn numeral_integer(n: Numeral) -> Integer
+// The integer that a token is, if it is one from -2147483648 to 4294967295.
+fn numeral_integer(n: Numeral) -> Option<i64>
     ensures { result ≡ numeral_integer n }
 {
     match n {
-        Numeral::Positive(v) => {
-            if v > 4294967295 {
-                return Integer::Outside;
-            }
-            Integer::Value(v as i64)
-        }
-        Numeral::Negative(v) => {
-            if v > 2147483648 {
-                return Integer::Outside;
-            }
-            Integer::Value(-(v as i64))
-        }
-        Numeral::Empty => Integer::Outside,
-        Numeral::Minus => Integer::Outside,
-        Numeral::Other => Integer::Outside,
+        Numeral::Positive(v) if v <= 4294967295 => Some(v as i64),
+        Numeral::Negative(v) if v <= 2147483648 => Some(-(v as i64)),
+        Numeral::Positive(_) | Numeral::Negative(_) => None,
+        Numeral::Empty | Numeral::Minus | Numeral::Other => None,
     }
 }
 
@@ -150,22 +115,7 @@ fn word_more(w: Word, b: u8) -> Word
 pub fn is_word(w: Word, word: &[u8]) -> bool
     ensures { result ≡ is_word w word.now }
 {
-    let bytes = w.bytes;
-    let len = w.len;
-    if len > 8 {
-        return false;
-    }
-    if len != word.len() {
-        return false;
-    }
-    let mut i: usize = 0;
-    while i < len {
-        if bytes[i] != word[i] {
-            return false;
-        }
-        i += 1;
-    }
-    true
+    w.len <= 8 && &w.bytes[..w.len] == word
 }
 
 // How many integers of a line are kept, whether all could be read and kept, and the token that follows them.
@@ -176,48 +126,22 @@ pub struct Numbers {
     pub numeral: Numeral,
 }
 
-// The numbers of a line that cannot be read.
-fn spoiled(n: Numbers) -> Numbers
-    ensures { result ≡ record { count = n.count; good = false; numeral = n.numeral } }
-{
-    let numeral = n.numeral;
-    Numbers {
-        count: n.count,
-        good: false,
-        numeral,
-    }
-}
-
-// No integer is kept.
-fn none_kept(n: Numbers) -> Numbers
-    ensures { result ≡ none_kept n }
-{
-    let numeral = n.numeral;
-    Numbers {
-        count: 0,
-        good: n.good,
-        numeral,
-    }
-}
-
 // The token ends: its integer is kept.
 fn number_whole(nums: &mut [i64], n: Numbers) -> Numbers
     ensures { numbered nums.new result ≡ number_whole (numbered nums.old n) }
 {
-    let numeral = n.numeral;
     let at = n.count;
-    let Integer::Value(z) = numeral_integer(numeral) else {
-        return spoiled(n);
-    };
-    if at < nums.len() {
-        nums[at] = z;
-        return Numbers {
-            count: at + 1,
-            good: n.good,
-            numeral: Numeral::Empty,
-        };
+    match numeral_integer(n.numeral) {
+        Some(z) if at < nums.len() => {
+            nums[at] = z;
+            Numbers {
+                count: at + 1,
+                good: n.good,
+                numeral: Numeral::Empty,
+            }
+        }
+        _ => Numbers { good: false, ..n },
     }
-    spoiled(n)
 }
 
 // One byte more behind a line's word.
@@ -227,11 +151,9 @@ fn number_more(nums: &mut [i64], n: Numbers, b: u8) -> Numbers
     if b == b' ' {
         return number_whole(nums, n);
     }
-    let numeral = n.numeral;
     Numbers {
-        count: n.count,
-        good: n.good,
-        numeral: numeral_more(numeral, b),
+        numeral: numeral_more(n.numeral, b),
+        ..n
     }
 }
 
@@ -268,39 +190,28 @@ pub fn line_start() -> Line
 pub fn is_empty(line: Line) -> bool
     ensures { result ≡ is_empty line }
 {
-    let word = line.word;
-    if line.behind {
-        return false;
-    }
-    word.len == 0
+    !line.behind && line.word.len == 0
 }
 
 // A line with a byte behind it.
 pub fn line_more(nums: &mut [i64], line: Line, b: u8) -> Line
     ensures { lined nums.new result ≡ line_more (lined nums.old line) b }
 {
-    let word = line.word;
-    let numbers = line.numbers;
     if line.behind {
-        let more = number_more(nums, numbers, b);
         return Line {
-            word,
-            behind: true,
-            numbers: more,
+            numbers: number_more(nums, line.numbers, b),
+            ..line
         };
     }
     if b == b' ' {
         return Line {
-            word,
             behind: true,
-            numbers,
+            ..line
         };
     }
-    let longer = word_more(word, b);
     Line {
-        word: longer,
-        behind: false,
-        numbers,
+        word: word_more(line.word, b),
+        ..line
     }
 }
 
@@ -309,21 +220,15 @@ pub fn line_whole(nums: &mut [i64], line: Line) -> Line
     ensures is { lined nums.new result ≡ line_whole (lined nums.old line) }
     ensures within { Within (lined nums.new result) }
 {
-    let word = line.word;
-    let numbers = line.numbers;
-    if !line.behind {
-        return Line {
-            word,
-            behind: false,
-            numbers: none_kept(numbers),
-        };
-    }
-    let all = number_whole(nums, numbers);
-    Line {
-        word,
-        behind: true,
-        numbers: all,
-    }
+    let numbers = if line.behind {
+        number_whole(nums, line.numbers)
+    } else {
+        Numbers {
+            count: 0,
+            ..line.numbers
+        }
+    };
+    Line { numbers, ..line }
 }
 
 // A line so far.
@@ -341,24 +246,20 @@ pub fn feed(nums: &mut [i64], line: Line, s: &[u8], from: usize) -> Fed
     requires { from ≤ length s.now }
     ensures { FedBy s.now from result.at result.next (lined nums.old line) (lined nums.new result.line) }
 {
-    let mut now_line = line;
-    let mut i = from;
-    while i < s.len() {
-        let b = s[i];
-        if b == b'\n' {
+    let mut line = line;
+    for i in from..s.len() {
+        if s[i] == b'\n' {
             return Fed {
-                line: now_line,
+                line,
                 at: i,
                 next: i + 1,
             };
         }
-        let next = line_more(nums, now_line, b);
-        now_line = next;
-        i += 1;
+        line = line_more(nums, line, s[i]);
     }
     Fed {
-        line: now_line,
-        at: i,
-        next: i,
+        line,
+        at: s.len(),
+        next: s.len(),
     }
 }

@@ -1,17 +1,16 @@
 -- `lines::line_whole` meets its contract.
-use borrow.Author.Tests.{not-true, not-false}
 use Rattle.lines.proofs.Steps.{whole_behind, whole_ends, whole_word}
 use Rattle.lines.specs.Lines.{lined}
 use Rattle.lines.proofs.line_whole.Goals as goal
+use Rattle.lines.proofs.line_whole.Goals.{then-line, else-line}
 
-pub returns-then-not-line : goal.returns-then-not-line
-returns-then-not-line c =
+pub returns-clause-is : goal.returns-clause-is
+returns-clause-is c =
     let k = lined c.args.nums.now c.args.line in
-    let e = whole_ends k (whole_word k (not-true _ c.if-not-line.true) c.none_kept.ensures) in
-    record { is = e.0; within = e.1 }
+    elim c.if-line.branch [
+      | then-line w ↦ whole_behind k w.if-line.true (rw (w.nums-is, w.numbers-is) w.number_whole-numbers.ensures)
+      | else-line w ↦ whole_word k w.if-line.false w.nums-is w.numbers-is
+    ]
 
-pub returns : goal.returns
-returns c =
-    let k = lined c.args.nums.now c.args.line in
-    let e = whole_ends k (whole_behind k (not-false _ c.if-not-line.false) c.number_whole-all.ensures) in
-    record { is = e.0; within = e.1 }
+pub returns-clause-within : goal.returns-clause-within
+returns-clause-within c = (whole_ends (lined c.args.nums.now c.args.line) (returns-clause-is c)).1
