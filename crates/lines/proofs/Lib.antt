@@ -6,3 +6,4 @@ pub mod Words
 pub mod ReadBack
 pub mod Examples
 pub mod Lists
+pub mod Typed

@@ -1,5 +1,5 @@
 -- The numbers of a line, as the types that a call takes.
-use Rattle.std.specs.Prelude.{ℕ, ◌<◌, ◌≡◌, Bool, true, false, ◌&&◌, ◌⊎◌, cond, List, [], ◌∷◌, map, leb, ltb, ℤ, pos, negsuc, length, get_or, take, slice_get, Option, Some, None, MatchOption, Result, Ok, Err, ⊤}
+use Rattle.std.specs.Prelude.{ℕ, ◌<◌, ◌≤◌, ◌≡◌, Bool, true, false, ◌&&◌, ◌⊎◌, cond, List, [], ◌∷◌, map, leb, ltb, ℤ, pos, negsuc, length, get_or, slice_get, Option, Some, None, MatchOption, IfSome, is_some, Result, Ok, Err, ⊤}
 use Rattle.std.specs.Result.{result_ok}
 
 -- a number of a line as a type, where `gives` is what the type's conversion gives: there is none where the line ends before it or it does not fit
@@ -16,6 +16,10 @@ AllConverted gives (z ∷ zs) (x ∷ xs) = gives z (Ok x) × AllConverted gives 
 -- there are more than the room, or one does not convert
 abbrev pub NotConverted : {A E : Type 0} → (ℤ → Result A E → Type 0) → List ℤ → ℕ → Type 0
 NotConverted {A} {E} gives nums room = (room < length nums) ⊎ ((k : ℕ) × (e : E) × (k < length nums) × gives (get_or nums k (pos 0)) (Err e))
+
+-- r is there if all numbers convert and there is room for so many; if so, `entries r` has them
+abbrev pub ListOf : {A E R : Type 0} → (ℤ → Result A E → Type 0) → (R → List A) → List ℤ → ℕ → Option R → Type 0
+ListOf gives entries nums room r = MatchOption r (NotConverted gives nums room) (λ xs. (length nums ≤ room) × AllConverted gives nums (entries xs))
 
 -- z as a u32, and as an i32
 unfoldable pub unsigned_of : ℤ → Option ℕ
@@ -49,7 +53,7 @@ all_of f (z ∷ zs) = f z && all_of f zs
 abbrev pub itself : ℤ → ℤ
 itself z = z
 
--- r says whether all numbers are as f asks and there is room for them in xs; if so, they are its first entries
-pub record Listed {A : Type 0} (f : ℤ → Bool) (as-integer : A → ℤ) (nums : List ℤ) (xs : List A) (r : Bool) : Type 0 where
-  pub fit : r ≡ (leb (length nums) (length xs) && all_of f nums)
-  pub are : r ≡ true → map as-integer (take (length nums) xs) ≡ nums
+-- r is there if all numbers are as f asks and there is room for so many; if so, they are `entries r`
+pub record Listed {A R : Type 0} (f : ℤ → Bool) (as-integer : A → ℤ) (entries : R → List A) (nums : List ℤ) (room : ℕ) (r : Option R) : Type 0 where
+  pub fit : is_some r ≡ (leb (length nums) room && all_of f nums)
+  pub are : IfSome r (λ xs. map as-integer (entries xs) ≡ nums)

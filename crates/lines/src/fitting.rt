@@ -1,6 +1,6 @@
 // The integers of a line, as the types that a call takes.
-ghost use Rattle.std.specs.Prelude.{length, MatchOption};
-ghost use Rattle.lines.specs.Fitting.{AllConverted, NotConverted, NumberAt};
+ghost use Rattle.std.specs.Prelude.{length};
+ghost use Rattle.lines.specs.Fitting.{ListOf, NumberAt};
 
 // Number i of a line, if the line has it and it fits the type.
 pub fn number_at<T: TryFrom<i64>>(nums: &[i64], i: usize) -> Option<T>
@@ -15,7 +15,7 @@ where
 pub fn number_list<'a, T: TryFrom<i64> + Drop>(nums: &[i64], out: &'a mut [T]) -> Option<&'a [T]>
 where
     T::Error: Drop,
-    ensures { MatchOption result (NotConverted T.try_from_gives nums.now (length out.old)) (λ s. AllConverted T.try_from_gives nums.now s.now) }
+    ensures { ListOf T.try_from_gives (λ s. s.now) nums.now (length out.old) result }
 {
     let part = out.get_mut(..nums.len())?;
     for (i, z) in nums.iter().enumerate() {
