@@ -3,6 +3,7 @@
 use Rattle.std.specs.Prelude.{◌+◌, ◌-◌, ◌<◌, ◌^◌, ◌≤◌, suc, zero, ℕ, drop, get_or, length, set, take, List, [], ◌∷◌, ◌⊎◌, ◌≡◌}
 use Rattle.std.proofs.lemmas.List.Edits.{sets}
 use Rattle.sat.specs.Clause.{Clauses}
+use Rattle.sat.specs.Encoded.{EncodedRule}
 use Rattle.sat.specs.Size.{entries}
 use Rattle.clause_set.specs.declared.ClauseSet.{ClauseSet}
 use Rattle.clause_set.specs.declared.Counts.{Counts}
@@ -50,6 +51,14 @@ pub record Wrote (s : ClauseSet) (vars : ℕ) (cs : Clauses) (t : ClauseSet) : T
 -- with no new variable
 abbrev pub Added : ClauseSet → Clauses → ClauseSet → Type 0
 Added s = Wrote s s.vars
+
+-- the clauses and the variables of a rule
+abbrev pub AddedRule : ClauseSet → EncodedRule → ClauseSet → Type 0
+AddedRule s rule = Wrote s rule.vars rule.clauses
+
+-- fewer than m clauses, and ends below m
+abbrev pub Below : ℕ → ClauseSet → Type 0
+Below m s = (s.base + s.used.lits < m) × (s.used.clauses < m)
 
 -- the counts after the clauses, and the ends, which count from b, are numbers of a u32
 pub record Fits (b : ℕ) (at : Counts) (cs : Clauses) : Type 0 where

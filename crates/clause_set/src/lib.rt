@@ -7,7 +7,7 @@ ghost use Rattle.sat.specs.Lit.{as_lit};
 ghost use Rattle.sat.specs.LitArray.{num};
 ghost use Rattle.clause_set.specs.Bytes.{clause_holds, lit_holds};
 ghost use Rattle.clause_set.specs.Clause.{clause_lits};
-ghost use Rattle.clause_set.specs.Stores.{Added, Fits, Within, Wrote, part};
+ghost use Rattle.clause_set.specs.Stores.{Added, Fits, Within, Wrote, add_clauses, after, part};
 
 use sat::{Lit, Var};
 
@@ -43,7 +43,9 @@ impl ClauseSet<'_> {
     // Adds a clause.
     pub fn push(&mut self, clause: &[Lit])
         requires fits { Fits self.old.base self.old.used (map num clause.now ∷ []) }
-        ensures { Added self.old (map num clause.now ∷ []) self.new }
+        ensures added { Added self.old (map num clause.now ∷ []) self.new }
+        ensures lits { self.new.used.lits ≡ self.old.used.lits + length clause.now }
+        ensures clauses { self.new.used.clauses ≡ self.old.used.clauses + 1 }
     {
         let from = self.used.lits;
         let n = clause.len();
@@ -123,6 +125,22 @@ pub fn within(n: usize, long: usize) -> usize
     ensures { (result ≤ long) × Within n long result }
 {
     n.min(long)
+}
+
+// Adds a clause to stores that are no set yet, at the counts.
+pub fn push(lits: &mut [u32], ends: &mut [u32], clause: &[Lit], base: u32, at: Counts) -> Counts
+    requires fits { Fits base at (map num clause.now ∷ []) }
+    ensures { after lits.new ends.new result ≡ add_clauses base (map num clause.now ∷ []) (after lits.old ends.old at) }
+{
+    let mut set = ClauseSet {
+        lits,
+        ends,
+        base,
+        vars: 0,
+        used: at,
+    };
+    set.push(clause);
+    set.used
 }
 
 // A clause, handed back as the part of the literal store from the end before it to its own.

@@ -7,16 +7,18 @@ use mathlib.Core.Path.{◌≡◌, refl}
 use Rattle.encoder_env.specs.declared.EncoderEnv.{EncoderEnv}
 use Rattle.encoder_env.specs.WellFormed.{well_formed}
 use Rattle.solver_answer.specs.declared.Solution.{Solution}
-use Rattle.solver_answer.specs.declared.Solution.TheVariants.{Refused}
+use Rattle.std.specs.Prelude.{Err, Result}
+use Rattle.refusal.specs.declared.Refusal.{Refusal}
+use Rattle.refusal.specs.declared.Refusal.TheVariants.{IllFormed}
 use Rattle.solver_answer.specs.Answer.{Reads, said}
 use Rattle.encoder_solution.specs.Answers.{ReadsAnswer, read_answer}
 
 module _ (env : EncoderEnv) (lits ends text slice : List ℕ) where
-  pub read_unformed : well_formed env (length lits) (length ends) ≡ false → ReadsAnswer env lits ends text slice (Refused 1) slice
+  pub read_unformed : well_formed env (length lits) (length ends) ≡ false → ReadsAnswer env lits ends text slice (Err IllFormed) slice
   unfolding read_answer said
   read_unformed w = record { answer = rw w; bytes = refl }
 
-  pub read_formed : {r : Solution} {after : List ℕ} → well_formed env (length lits) (length ends) ≡ true → Reads env.variables text slice r after
+  pub read_formed : {r : Result Solution Refusal} {after : List ℕ} → well_formed env (length lits) (length ends) ≡ true → Reads env.variables text slice r after
       → ReadsAnswer env lits ends text slice r after
   unfolding read_answer
   read_formed w r = record { answer = rw w r.answer; bytes = r.bytes }

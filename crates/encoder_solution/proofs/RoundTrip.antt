@@ -10,7 +10,7 @@ use Rattle.clause_set.specs.Bytes.{IsAssignment}
 use Rattle.encoder_env.specs.declared.EncoderEnv.{EncoderEnv}
 use Rattle.encoder_env.specs.WellFormed.{well_formed}
 use Rattle.encoder_read.proofs.Known.{assignment_holds}
-use Rattle.solver_answer.specs.declared.PrintedAnswer.TheVariants.{Text}
+use Rattle.std.specs.Prelude.{Ok}
 use Rattle.solver_answer.specs.declared.Solution.TheVariants.{Assignment}
 use Rattle.solver_answer.specs.Answer.{assignment, said}
 use Rattle.solver_answer.specs.Print.{print, print_said}
@@ -20,7 +20,7 @@ use Rattle.encoder_solution.specs.RoundTrip.{ReadBack, RoundTrip, written}
 
 module _ (env : EncoderEnv) (lits ends : ℕ) (formed : well_formed env lits ends ≡ true) (bytes : List ℕ) (is : IsAssignment env.variables bytes)
     (out slice : List ℕ) (fits : length (print bytes) ≤ length out) (long : length slice ≡ env.variables) where
-  printed : print_answer env lits ends bytes (length out) ≡ Text (length (print bytes))
+  printed : print_answer env lits ends bytes (length out) ≡ Ok (length (print bytes))
   unfolding print_answer
   printed = rw (formed, assignment_holds env.variables bytes is, le-leb (length (print bytes)) (length out) fits)
 
@@ -28,7 +28,7 @@ module _ (env : EncoderEnv) (lits ends : ℕ) (formed : well_formed env lits end
   unfolding print_said
   text_is = rw printed (take-append_seam (print bytes) (drop (length (print bytes)) out))
 
-  found : read_answer env lits ends (print bytes) (length slice) ≡ Assignment
+  found : read_answer env lits ends (print bytes) (length slice) ≡ Ok Assignment
   unfolding read_answer
   found = rw (formed, long, ← is.long) (print_found bytes)
 

@@ -1,9 +1,8 @@
 -- The print of an assignment, read back, yields the same bytes (document 02, #103).
-use Rattle.std.specs.Prelude.{◌≤◌, ℕ, length, take, true, List, ◌≡◌}
+use Rattle.std.specs.Prelude.{◌≤◌, ℕ, length, take, true, List, ◌≡◌, Ok}
 use Rattle.clause_set.specs.Bytes.{IsAssignment}
 use Rattle.encoder_env.specs.declared.EncoderEnv.{EncoderEnv}
 use Rattle.encoder_env.specs.WellFormed.{well_formed}
-use Rattle.solver_answer.specs.declared.PrintedAnswer.TheVariants.{Text}
 use Rattle.solver_answer.specs.declared.Solution.TheVariants.{Assignment}
 use Rattle.solver_answer.specs.Answer.{assignment, said}
 use Rattle.solver_answer.specs.Print.{print, print_said}
@@ -15,9 +14,9 @@ written env lits ends bytes out = take (length (print bytes)) (print_said (print
 
 -- the print is accepted with its length; the text that it left is read as an assignment found, and the slice then holds the bytes printed
 pub record ReadBack (env : EncoderEnv) (lits ends : ℕ) (bytes out slice : List ℕ) : Type 0 where
-  pub printed : print_answer env lits ends bytes (length out) ≡ Text (length (print bytes))
-  pub found : read_answer env lits ends (written env lits ends bytes out) (length slice) ≡ Assignment
-  pub same : (said Assignment (assignment env.variables (written env lits ends bytes out)) slice).slice ≡ bytes
+  pub printed : print_answer env lits ends bytes (length out) ≡ Ok (length (print bytes))
+  pub found : read_answer env lits ends (written env lits ends bytes out) (length slice) ≡ Ok Assignment
+  pub same : (said (Ok Assignment) (assignment env.variables (written env lits ends bytes out)) slice).slice ≡ bytes
 
 -- for every well-formed job and every assignment of its variables, whatever the two lent slices held
 abbrev pub RoundTrip : Type 0

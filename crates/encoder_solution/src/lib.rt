@@ -2,12 +2,12 @@
 #![tactic(auto)]
 
 ghost use Rattle.std.specs.Prelude.{◌≡◌, length};
-ghost use Rattle.encoder_answer.specs.Outcome.{status_of};
-ghost use Rattle.encoder_solution.specs.Answers.{PrintsAnswer, ReadsAnswer, assignment_checks};
+ghost use Rattle.encoder_solution.specs.Answers.{PrintsAnswer, ReadsAnswer, assignment_checked};
 
 use encoder_env::{EncoderEnv, well_formed};
 use encoder_read::is_assignment;
-use solver_answer::{PrintedAnswer, Solution};
+use refusal::Refusal;
+use solver_answer::Solution;
 use solver_print::print_assignment;
 use solver_reading::read_solution;
 
@@ -19,26 +19,31 @@ pub fn read_answer(
     ends: &[u32],
     text: &[u8],
     assignment: &mut [u8],
-) -> Solution
+) -> Result<Solution, Refusal>
     ensures { ReadsAnswer env lits.now ends.now text.now assignment.old result assignment.new }
 {
     if !well_formed(env, lits.len(), ends.len()) {
-        return Solution::Refused(1);
+        return Err(Refusal::IllFormed);
     }
     read_solution(env.variables, text, assignment)
 }
 
 // The checks of a print but for its room.
-fn print_status(env: EncoderEnv, lits: usize, ends: usize, assignment: &[u8]) -> u32
-    ensures { result ≡ status_of (assignment_checks env lits ends assignment.now) }
+fn assignment_checks(
+    env: EncoderEnv,
+    lits: usize,
+    ends: usize,
+    assignment: &[u8],
+) -> Result<(), Refusal>
+    ensures { result ≡ assignment_checked env lits ends assignment.now }
 {
     if !well_formed(env, lits, ends) {
-        return 1;
+        Err(Refusal::IllFormed)
+    } else if !is_assignment(env.variables, assignment) {
+        Err(Refusal::NoAssignment)
+    } else {
+        Ok(())
     }
-    if !is_assignment(env.variables, assignment) {
-        return 16;
-    }
-    0
 }
 
 // Prints an assignment as a solver's answer at the start of the lent slice, and answers how many bytes it has. Refused, the slice is left as it
@@ -49,16 +54,13 @@ pub fn print_answer(
     ends: &[u32],
     assignment: &[u8],
     out: &mut [u8],
-) -> PrintedAnswer
+) -> Result<usize, Refusal>
     ensures { PrintsAnswer env lits.now ends.now assignment.now out.old result out.new }
 {
-    let status = print_status(env, lits.len(), ends.len(), assignment);
-    if status != 0 {
-        return PrintedAnswer::Refused(status);
-    }
+    assignment_checks(env, lits.len(), ends.len(), assignment)?;
     let size = print_assignment(assignment, out);
     if out.len() < size {
-        return PrintedAnswer::Refused(15);
+        return Err(Refusal::NoSpace);
     }
-    PrintedAnswer::Text(size)
+    Ok(size)
 }

@@ -9,7 +9,7 @@ use Rattle.lines.specs.Integers.{all_digits}
 use Rattle.lines.specs.Reading.{split}
 use Rattle.text.specs.Decimal.{decimal, digits, digits_value}
 use Rattle.solver_answer.specs.Lines.{all_numbers, by_word, is_number, is_positive, kind, kinds, kinds_of, number, numbers_in, same, values_line}
-use Rattle.solver_answer.specs.Answer.{Said, assignment, by_verdict, bytes_from, each_given, each_once, ended, is_true, kinds_status, known, numbers, readable, said, satisfiable, says_satisfiable, solution, solution_status, some_values, times, values_first, verdicts, whole}
+use Rattle.solver_answer.specs.Answer.{Said, assignment, by_verdict, bytes_from, each_given, each_once, ended, is_true, kinds_solution, known, numbers, readable, said, satisfiable, says_satisfiable, solution, some_values, times, values_first, verdicts, whole}
 use Rattle.solver_answer.specs.Print.{print, signed, values_from}
 
 -- a text read over that many variables into a slice of `room` bytes, each 7 before, and what is said
@@ -90,7 +90,7 @@ table_test [] = true
 table_test (r ∷ rs) = row_test r && table_test rs
 
 table_holds : table_test table ≡ true
-unfolding said solution assignment by_verdict bytes_from each_given each_once ended is_true kinds_status known numbers readable satisfiable says_satisfiable solution_status some_values times values_first verdicts whole all_numbers by_word is_number is_positive kind kinds kinds_of number numbers_in same split values_line all_digits digits_value
+unfolding said solution assignment by_verdict bytes_from each_given each_once ended is_true kinds_solution known numbers readable satisfiable says_satisfiable some_values times values_first verdicts whole all_numbers by_word is_number is_positive kind kinds kinds_of number numbers_in same split values_line all_digits digits_value
 table_holds = refl
 
 -- the print of 1, 0, 1 and of no bytes

@@ -7,13 +7,14 @@ use mathlib.Core.Bool.{◌||◌, cond, false, not, true}
 use mathlib.Core.List.{List, [], ◌++◌, ◌∷◌, append_assoc, append-nil}
 use mathlib.Core.Path.{◌∙◌, ◌≡◌, ap, refl, sym}
 use native.Mathlib.Omega.{arith}
+use Rattle.std.specs.Prelude.{Ok}
 use Rattle.text.specs.Decimal.{digits_value}
 use Rattle.lines.specs.Reading.{split}
 use Rattle.lines.proofs.ReadBack.{and_both}
 use Rattle.clause_set.specs.Bytes.{Bits}
 use Rattle.solver_answer.specs.Lines.{Kind, Number, all_numbers, by_word, is_number, kind, kinds, kinds_of, number, numbers_in, same, satisfiable_line, values, values_line, verdict}
 use Rattle.solver_answer.specs.declared.Solution.TheVariants.{Assignment}
-use Rattle.solver_answer.specs.Answer.{assignment, by_verdict, bytes_from, each_given, each_once, ended, is_true, kinds_status, known, numbers, readable, satisfiable, says_satisfiable, solution, solution_status, times, values_first, verdicts, whole}
+use Rattle.solver_answer.specs.Answer.{assignment, by_verdict, bytes_from, each_given, each_once, ended, is_true, kinds_solution, known, numbers, readable, satisfiable, says_satisfiable, solution, times, values_first, verdicts, whole}
 use Rattle.solver_answer.specs.Print.{print, signed, values_from}
 use Rattle.solver_answer.proofs.Splits.{Free, free_append, kinds_line, split_none, split_some}
 use Rattle.solver_answer.proofs.Numerals.{signed_reads}
@@ -155,8 +156,8 @@ module _ (bs : List ℕ) where
   abbrev Lined : Type 0
   Lined = kinds_of (print bs) ≡ verdict true ∷ values (numbered 1 bs) ∷ []
 
-  solution_is : Lined → solution (length bs) (print bs) (length bs) ≡ Assignment
-  unfolding solution solution_status kinds_status whole readable by_verdict verdicts values_first numbers satisfiable says_satisfiable each_given
+  solution_is : Lined → solution (length bs) (print bs) (length bs) ≡ Ok Assignment
+  unfolding solution kinds_solution whole readable by_verdict verdicts values_first numbers satisfiable says_satisfiable each_given
   solution_is e =
       rw (e, append-nil, numbered_ended 1 bs (omega arith), numbered_known (length bs) 1 bs (omega arith), numbered_once 1 bs (omega arith), eq-eqb (length bs) (length bs) refl)
 
@@ -165,7 +166,7 @@ module _ (bs : List ℕ) where
   bytes_are a e = rw (e, append-nil) (numbered_bytes 1 bs (omega arith) a)
 
   -- a print read over as many variables, into a slice as long, is an assignment found
-  pub print_found : solution (length bs) (print bs) (length bs) ≡ Assignment
+  pub print_found : solution (length bs) (print bs) (length bs) ≡ Ok Assignment
   print_found = solution_is (print_kinds bs)
 
   -- and the bytes are the same

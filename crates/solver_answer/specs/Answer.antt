@@ -1,7 +1,10 @@
 -- What a solver's answer says, and the number it is refused with (document 02, #103).
-use Rattle.std.specs.Prelude.{suc, zero, ℕ, eqb, leb, length, Bool, ◌&&◌, ◌||◌, cond, false, not, true, List, [], ◌++◌, ◌∷◌, ◌≡◌}
+use Rattle.std.specs.Prelude.{suc, zero, ℕ, eqb, leb, length, Bool, ◌&&◌, ◌||◌, cond, false, not, true, List, [], ◌++◌, ◌∷◌, ◌≡◌, Result, Ok, Err}
+use Rattle.refusal.specs.Number.{number}
+use Rattle.refusal.specs.declared.Refusal.{Refusal}
+use Rattle.refusal.specs.declared.Refusal.TheVariants.{NoAssignment, NotGivenOnce, NotWhole}
 use Rattle.solver_answer.specs.declared.Solution.{Solution}
-use Rattle.solver_answer.specs.declared.Solution.TheVariants.{Assignment, Refused, Unsatisfiable}
+use Rattle.solver_answer.specs.declared.Solution.TheVariants.{Assignment, Unsatisfiable}
 use Rattle.solver_answer.specs.Lines.{Kind, Number, broken, comment, kinds_of, values, verdict}
 
 -- 19 ------------------------------------------------------------------------------------------------------------------
@@ -111,23 +114,16 @@ assignment n text = bytes_from 1 n (numbers (kinds_of text))
 -- The reading, where the job has n variables and the lent slice `room` bytes -------------------------------------------
 
 -- 19, then 20, then 16
-unfoldable pub kinds_status : ℕ → List Kind → ℕ → ℕ
-kinds_status n ks room =
+unfoldable pub kinds_solution : ℕ → List Kind → ℕ → Result Solution Refusal
+kinds_solution n ks room =
     cond (whole ks)
     (cond (not (satisfiable ks) || each_given n (numbers ks))
-    (cond (eqb room n) 0 16)
-    20)
-    19
+    (cond (eqb room n) (Ok (cond (satisfiable ks) Assignment Unsatisfiable)) (Err NoAssignment))
+    (Err NotGivenOnce))
+    (Err NotWhole)
 
-unfoldable pub solution_status : ℕ → List ℕ → ℕ → ℕ
-solution_status n text room = kinds_status n (kinds_of text) room
-
--- the case, by the number and whether the answer is satisfiable
-abbrev pub case_of : ℕ → Bool → Solution
-case_of status sat = cond (eqb status 0) (cond sat Assignment Unsatisfiable) (Refused status)
-
-unfoldable pub solution : ℕ → List ℕ → ℕ → Solution
-solution n text room = case_of (solution_status n text room) (satisfiable (kinds_of text))
+unfoldable pub solution : ℕ → List ℕ → ℕ → Result Solution Refusal
+solution n text room = kinds_solution n (kinds_of text) room
 
 -- What each case says: its number, its word (1 an assignment was found, 0 none was), and the slice after it, where the text gives these
 -- bytes. A refusal and an unsatisfiable answer leave the slice as it was.
@@ -136,12 +132,12 @@ pub record Said : Type 0 where
   pub value : ℕ
   pub slice : List ℕ
 
-unfoldable pub said : Solution → List ℕ → List ℕ → Said
-said Assignment bytes slice = record { status = 0; value = 1; slice = bytes }
-said Unsatisfiable bytes slice = record { status = 0; value = 0; slice = slice }
-said (Refused number) bytes slice = record { status = number; value = 0; slice = slice }
+unfoldable pub said : Result Solution Refusal → List ℕ → List ℕ → Said
+said (Ok Assignment) bytes slice = record { status = 0; value = 1; slice = bytes }
+said (Ok Unsatisfiable) bytes slice = record { status = 0; value = 0; slice = slice }
+said (Err refusal) bytes slice = record { status = number refusal; value = 0; slice = slice }
 
 -- the code answers r and leaves `after` in the slice
-pub record Reads (n : ℕ) (text slice : List ℕ) (r : Solution) (after : List ℕ) : Type 0 where
+pub record Reads (n : ℕ) (text slice : List ℕ) (r : Result Solution Refusal) (after : List ℕ) : Type 0 where
   pub answer : r ≡ solution n text (length slice)
   pub bytes : after ≡ (said r (assignment n text) slice).slice

@@ -1,8 +1,8 @@
 -- The print of an assignment as a solver's answer (document 02, #103).
-use Rattle.std.specs.Prelude.{suc, ℕ, eqb, drop, cond, List, [], ◌++◌, ◌∷◌}
+use Rattle.std.specs.Prelude.{suc, ℕ, eqb, drop, cond, List, [], ◌++◌, ◌∷◌, Result, Ok, Err}
 use Rattle.text.specs.Decimal.{decimal}
-use Rattle.solver_answer.specs.declared.PrintedAnswer.{PrintedAnswer}
-use Rattle.solver_answer.specs.declared.PrintedAnswer.TheVariants.{Refused, Text}
+use Rattle.refusal.specs.Number.{number}
+use Rattle.refusal.specs.declared.Refusal.{Refusal}
 use Rattle.solver_answer.specs.Lines.{satisfiable_line}
 use Rattle.solver_answer.specs.Answer.{Said}
 
@@ -21,6 +21,6 @@ print bytes = satisfiable_line ++ (10 ∷ 118 ∷ values_from 1 bytes)
 
 -- What each case says: its number, its value (the length of the text, 0 if refused), and the slice after it, where this is the text. A refusal
 -- leaves the slice as it was, and a print the bytes behind the text.
-unfoldable pub print_said : PrintedAnswer → List ℕ → List ℕ → Said
-print_said (Text size) text slice = record { status = 0; value = size; slice = text ++ drop size slice }
-print_said (Refused number) text slice = record { status = number; value = 0; slice = slice }
+unfoldable pub print_said : Result ℕ Refusal → List ℕ → List ℕ → Said
+print_said (Ok size) text slice = record { status = 0; value = size; slice = text ++ drop size slice }
+print_said (Err refusal) text slice = record { status = number refusal; value = 0; slice = slice }

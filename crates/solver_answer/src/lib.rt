@@ -2,17 +2,9 @@
 // is read back.
 #![tactic(auto)]
 
-// What a reading comes to: an assignment, the word that none was found, or the number that the answer is refused with.
-#[derive(Clone, Copy)]
+// What a reading comes to where it is not refused: an assignment, or the word that none was found.
+#[derive(Clone, Copy, Debug, PartialEq, Eq)]
 pub enum Solution {
     Assignment,
     Unsatisfiable,
-    Refused(u32),
-}
-
-// What a print comes to: the length of the text written, or the number that the assignment is refused with.
-#[derive(Clone, Copy)]
-pub enum PrintedAnswer {
-    Text(usize),
-    Refused(u32),
 }

@@ -1,3 +1,2 @@
-pub mod Scans
-pub mod Parts
 pub mod Words
+pub mod Numbers

@@ -1,100 +1,151 @@
 -- What the code answers is what the text says: numbers 19, 20, 16, the word and the bytes.
 use Prim.Native.Nat.{◌<◌, ◌≤◌, ℕ}
-use borrow.Author.Tests.{eq-eqb, eqb-true, ne_eqb}
+use borrow.Author.Tests.{eqb-true}
 use lib.Dec.{eqb}
-use lib.ListN.{get_or, get_or-replicate, length, length-replicate, replicate}
-use mathlib.Core.Bool.{Bool, ◌||◌, cond, false, not, true}
+use lib.ListN.{get_or, get_or-replicate, length, length-replicate, length-take, replicate, take}
+use mathlib.Core.Bool.{Bool, ◌||◌, cond, false, not, true, true≢false}
 use mathlib.Core.List.{List}
-use mathlib.Core.Path.{◌∙◌, ◌≡◌, ap, refl, sym}
+use mathlib.Core.Path.{◌∙◌, ◌≡◌, ap, refl, subst, sym}
 use native.Mathlib.Omega.{arith}
-use Rattle.solver_answer.specs.declared.Solution.TheVariants.{Assignment, Refused, Unsatisfiable}
-use Rattle.solver_answer.specs.Answer.{Reads, assignment, each_given, kinds_status, numbers, said, satisfiable, solution, solution_status, whole}
+use Rattle.std.proofs.lemmas.List.{take-replicate}
+use Rattle.std.specs.Prelude.{Option, None, Ok, Err, Result, is_ok, map}
+use Rattle.refusal.specs.declared.Refusal.{Refusal}
+use Rattle.refusal.specs.declared.Refusal.TheVariants.{NoAssignment, NotGivenOnce, NotWhole}
+use Rattle.solver_answer.specs.declared.Solution.{Solution}
+use Rattle.solver_answer.specs.declared.Solution.TheVariants.{Assignment, Unsatisfiable}
+use Rattle.solver_answer.specs.Answer.{Reads, assignment, each_given, kinds_solution, numbers, said, satisfiable, solution, whole}
 use Rattle.solver_answer.specs.Lines.{Kind, kinds_of}
+use Rattle.solver_reading.specs.declared.Phase.TheVariants.{Satisfiable}
+use Rattle.solver_reading.specs.Reading.{Run, begun, byte, in_phase, is_found, run, run_given, run_of, run_solution, after_lines}
 use Rattle.solver_reading.specs.declared.State.{State}
-use Rattle.solver_reading.specs.Reading.{Run, all_given, begun, in_phase, prefix, run, run_given, run_of, run_status}
+use Rattle.lines.specs.Reading.{split}
 use Rattle.solver_reading.proofs.Whole.{run_says}
 use Rattle.solver_reading.proofs.Given.{bytes_are, given_is}
 
--- nothing given, behind a satisfiable `s` line
-abbrev open_run : Run
-open_run = in_phase (run begun (replicate 65536 2)) 1
+pub no_ok : {e : Refusal} {s : Solution} → Err e ≡ Ok s → ⊥
+no_ok h = true≢false (sym (ap is_ok h))
 
-module _ (n : ℕ) (small : n ≤ 65535) (text : List ℕ) where
+pub ok_same : {s t : Solution} → ◌≡◌ {A = Result Solution Refusal} (Ok s) (Ok t) → s ≡ t
+ok_same h = cc
+
+abbrev is_assignment : Solution → Bool
+is_assignment Assignment = true
+is_assignment Unsatisfiable = false
+
+pub no_both : Unsatisfiable ≡ Assignment → ⊥
+no_both h = true≢false (sym (ap is_assignment h))
+
+word_says : (b : Bool) → Assignment ≡ cond b Assignment Unsatisfiable → b ≡ true
+word_says true h = refl
+word_says false h = absurd (true≢false (ap is_assignment h))
+
+module _ (n : ℕ) (text : List ℕ) where
+  -- nothing given, behind a satisfiable `s` line
+  abbrev open_run : Run
+  open_run = in_phase (run begun (replicate n None)) Satisfiable
+
   abbrev ks : List Kind
   ks = kinds_of text
 
   abbrev z : Run
   z = run_of n text
 
-  long : n ≤ length open_run.bytes
-  long = rw length-replicate (omega arith)
+  long : length open_run.given ≡ n
+  long = rw length-replicate
 
-  unset : (v : ℕ) → v < n → get_or open_run.bytes v 0 ≡ 2
-  unset v h = get_or-replicate 65536 v 2 0 (omega arith)
+  unset : (v : ℕ) → v < n → get_or open_run.given v None ≡ None
+  unset v h = get_or-replicate n v None None h
 
-  given_once : whole ks ≡ true → satisfiable ks ≡ true → run_given n z ≡ each_given n (numbers ks)
+  given_once : whole ks ≡ true → satisfiable ks ≡ true → run_given z ≡ each_given n (numbers ks)
   given_once w s = rw ((run_says n text).took w s) (given_is n open_run (numbers ks) refl long unset)
 
-  given_bytes : whole ks ≡ true → satisfiable ks ≡ true → each_given n (numbers ks) ≡ true → prefix n z.bytes ≡ assignment n text
+  given_bytes : whole ks ≡ true → satisfiable ks ≡ true → each_given n (numbers ks) ≡ true → map byte z.given ≡ assignment n text
   unfolding assignment
   given_bytes w s g = rw ((run_says n text).took w s) (bytes_are n open_run (numbers ks) refl long unset g)
 
-  -- the numbers
-  status_is : (room : ℕ) → run_status n z room ≡ solution_status n text room
-  unfolding run_status solution_status kinds_status all_given
-  status_is room = rw (run_says n text).is_whole (by (whole ks) refl)
+  -- the numbers, and the word
+  pub solution_is : (room : ℕ) → run_solution n z room ≡ solution n text room
+  unfolding solution kinds_solution
+  solution_is room = rw (run_says n text).is_whole (by (whole ks) refl)
     where
-      rest : Bool → ℕ
-      rest b = cond b (cond (eqb room n) 0 16) 20
+      rest : Bool → Bool → Result Solution Refusal
+      rest s g = cond (not s || g) (cond (eqb room n) (Ok (cond s Assignment Unsatisfiable)) (Err NoAssignment)) (Err NotGivenOnce)
 
-      at : whole ks ≡ true → (s : Bool) → satisfiable ks ≡ s → rest (not (satisfiable ks) || run_given n z) ≡ rest (not (satisfiable ks) || each_given n (numbers ks))
-      at w true e = ap (λ (b : Bool). rest (not (satisfiable ks) || b)) (given_once w e)
+      at : whole ks ≡ true → (s : Bool) → satisfiable ks ≡ s → rest (satisfiable ks) (run_given z) ≡ rest (satisfiable ks) (each_given n (numbers ks))
+      at w true e = ap (rest (satisfiable ks)) (given_once w e)
       at w false e = rw e
 
-      by : (w : Bool) → whole ks ≡ w → cond w (rest (not (eqb z.state.phase 1) || run_given n z)) 19 ≡ cond w (rest (not (satisfiable ks) || each_given n (numbers ks))) 19
+      by : (w : Bool) → whole ks ≡ w → cond w (rest (is_found z.state.phase) (run_given z)) (Err NotWhole) ≡ cond w (rest (satisfiable ks) (each_given n (numbers ks))) (Err NotWhole)
       by true e = rw ((run_says n text).is_sat e) (at e (satisfiable ks) refl)
       by false e = refl
 
   -- what an accepted answer passed
-  passed : (room : ℕ) → solution_status n text room ≡ 0 → (whole ks ≡ true) × ((not (satisfiable ks) || each_given n (numbers ks)) ≡ true) × (room ≡ n)
-  unfolding solution_status kinds_status
-  passed room h = by (whole ks) refl (not (satisfiable ks) || each_given n (numbers ks)) refl (eqb room n) refl h
+  record Accepted (s : Solution) (room : ℕ) : Type 0 where
+    is_whole : whole ks ≡ true
+    is_given : (not (satisfiable ks) || each_given n (numbers ks)) ≡ true
+    as_long : room ≡ n
+    word : s ≡ cond (satisfiable ks) Assignment Unsatisfiable
+
+  accepted : {s : Solution} (room : ℕ) → solution n text room ≡ Ok s → Accepted s room
+  unfolding solution kinds_solution
+  accepted {s} room h = by (whole ks) refl (not (satisfiable ks) || each_given n (numbers ks)) refl (eqb room n) refl h
     where
       by : (w : Bool) → whole ks ≡ w → (g : Bool) → (not (satisfiable ks) || each_given n (numbers ks)) ≡ g → (l : Bool) → eqb room n ≡ l
-          → ◌≡◌ {A = ℕ} (cond w (cond g (cond l 0 16) 20) 19) 0 → (whole ks ≡ true) × ((not (satisfiable ks) || each_given n (numbers ks)) ≡ true) × (room ≡ n)
-      by true w true g true l h = (w, g, eqb-true room n l)
-      by true w true g false l h = absurd (omega (arith, h))
-      by true w false g l e h = absurd (omega (arith, h))
-      by false w g e l f h = absurd (omega (arith, h))
+          → cond w (cond g (cond l (Ok (cond (satisfiable ks) Assignment Unsatisfiable)) (Err NoAssignment)) (Err NotGivenOnce)) (Err NotWhole) ≡ Ok s → Accepted s room
+      by true w true g true l h = record { is_whole = w; is_given = g; as_long = eqb-true room n l; word = cc }
+      by true w true g false l h = absurd (no_ok h)
+      by true w false g l e h = absurd (no_ok h)
+      by false w g e l f h = absurd (no_ok h)
 
-  -- The call, where the run came to this state and these bytes, and `out` is the lent slice -------------------------------
+  -- The call, where `out` is the lent slice -------------------------------------------------------------------------------
 
-  module _ (st : State) (bytes out : List ℕ) (ran : run st bytes ≡ run_of n text) {status : ℕ} (e : status ≡ run_status n (run st bytes) (length out)) where
-    is_status : status ≡ solution_status n text (length out)
-    is_status = e ∙ ap (λ (q : Run). run_status n q (length out)) ran ∙ status_is (length out)
+  module _ (out : List ℕ) where
+    pub read_kept : {r : Result Solution Refusal} → r ≡ run_solution n z (length out) → (r ≡ Ok Assignment → ⊥) → Reads n text out r out
+    unfolding said
+    read_kept {r} h k = record { answer = h ∙ solution_is (length out); bytes = by r k }
+      where
+        by : (q : Result Solution Refusal) → (q ≡ Ok Assignment → ⊥) → out ≡ (said q (assignment n text) out).slice
+        by (Ok Assignment) k = absurd (k refl)
+        by (Ok Unsatisfiable) k = refl
+        by (Err e) k = refl
 
-    accepted : status ≡ 0 → (whole ks ≡ true) × ((not (satisfiable ks) || each_given n (numbers ks)) ≡ true) × (length out ≡ n)
-    accepted h = passed (length out) (sym is_status ∙ h)
+    pub read_found : {after : List ℕ} {r : Result Solution Refusal} → r ≡ run_solution n z (length out) → r ≡ Ok Assignment → after ≡ map byte z.given
+        → Reads n text out r after
+    unfolding said
+    read_found {after} h k w =
+        let a = accepted (length out) (sym (solution_is (length out)) ∙ sym h ∙ k) in
+        let s = word_says (satisfiable ks) a.word in
+        let g : each_given n (numbers ks) ≡ true = rw s at a.is_given in
+        record { answer = h ∙ solution_is (length out); bytes = w ∙ given_bytes a.is_whole s g ∙ rw k }
 
-    is_sat : status ≡ 0 → eqb st.phase 1 ≡ satisfiable ks
-    is_sat h = ap (λ (q : Run). eqb q.state.phase 1) ran ∙ (run_says n text).is_sat (accepted h).0
+    pub room_fits : {r : Result Solution Refusal} → r ≡ run_solution n z (length out) → r ≡ Ok Assignment → length out ≡ n
+    room_fits h k = (accepted (length out) (sym (solution_is (length out)) ∙ sym h ∙ k)).as_long
 
-    pub read_refused : (status ≡ 0 → ⊥) → Reads n text out (Refused status) out
-    unfolding solution said
-    read_refused h = record { answer = rw (← is_status, ne_eqb status 0 h); bytes = refl }
+-- The call itself, where `given` has a place for each variable, all open ----------------------------------------------------
 
-    pub read_none : status ≡ 0 → (st.phase ≡ 1 → ⊥) → Reads n text out Unsatisfiable out
-    unfolding solution said
-    read_none h p = record { answer = rw (← is_status, h, ← is_sat h, ne_eqb st.phase 1 p); bytes = refl }
+module _ (n n' : ℕ) (text : List ℕ) (room : ℕ) {st first : State} {given given' : List (Option Bool)}
+    (ran : run st given' ≡ after_lines n (run first given) (split 10 text)) (begins : first ≡ begun) (none : given ≡ replicate n None) where
+  whole_run : run st given' ≡ run_of n text
+  unfolding run_of
+  whole_run =
+      ran ∙ ap (λ (f : State). after_lines n (run f given) (split 10 text)) begins
+      ∙ ap (λ (g : List (Option Bool)). after_lines n (run begun g) (split 10 text)) none
 
-    pub read_found : {after : List ℕ} → status ≡ 0 → st.phase ≡ 1 → after ≡ prefix (length out) bytes → Reads n text out Assignment after
-    unfolding solution said
-    read_found {after} h p w =
-        let a = accepted h in
-        let s : satisfiable ks ≡ true = sym (is_sat h) ∙ eq-eqb st.phase 1 p in
-        let g : each_given n (numbers ks) ≡ true = rw s at a.1 in
-        let b : after ≡ prefix n (run_of n text).bytes = w ∙ rw a.2 (ap (λ (q : Run). prefix n q.bytes) ran) in
-        record { answer = rw (← is_status, h, s); bytes = b ∙ given_bytes a.0 s g }
+  pub solved : {r : Result Solution Refusal} → n' ≡ n → r ≡ run_solution n' (run st given') room → r ≡ run_solution n (run_of n text) room
+  solved l s = s ∙ ap (λ (k : ℕ). run_solution k (run st given') room) l ∙ ap (λ (q : Run). run_solution n q room) whole_run
 
-    pub room_fits : status ≡ 0 → length out ≤ 65536
-    room_fits h = omega (arith, (accepted h).2)
+  pub all_given : given' ≡ (run_of n text).given
+  all_given = ap (λ (q : Run). q.given) whole_run
+
+-- the places for n variables
+abbrev room : ℕ → List (Option Bool)
+room n = take n (replicate 65536 None)
+
+pub room_long : (n : ℕ) → n ≤ 65535 → length (room n) ≡ n
+room_long n h = rw (length-take, length-replicate) (omega arith)
+
+pub room_open : (n : ℕ) → n ≤ 65535 → room n ≡ replicate (length (room n)) None
+room_open n h = take-replicate n 65536 None (omega arith) ∙ ap (λ (k : ℕ). replicate k None) (sym (room_long n h))
+
+pub room_read : (n : ℕ) (h : n ≤ 65535) {text out after : List ℕ} {r : Result Solution Refusal} → Reads (length (room n)) text out r after → Reads n text out r after
+room_read n h {text} {out} {after} {r} a = let P : ℕ → Type 0 = λ k. Reads k text out r after in subst P (room_long n h) a

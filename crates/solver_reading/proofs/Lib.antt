@@ -1,6 +1,5 @@
-pub mod Taking
-pub mod LineSteps
-pub mod Ends
 pub mod Whole
+pub mod Taking
 pub mod Given
+pub mod Lines
 pub mod Answers

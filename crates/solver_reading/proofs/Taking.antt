@@ -1,20 +1,22 @@
 -- Laws of taking the numbers of a line.
-use Prim.Native.Nat.{◌+◌, ◌-◌, ◌<◌, ◌≤◌, min, ℕ}
-use borrow.Author.Tests.{eq-eqb, le-leb, le-ltb, leb-false, leb-true, lt-leb, lt-ltb, ne_eqb}
+use Prim.Native.Nat.{◌+◌, ◌-◌, ◌<◌, ◌≤◌, min, suc, ℕ}
+use borrow.Author.Tests.{eq-eqb, le-ltb, leb-false, leb-true, lt-ltb, ne_eqb}
 use lib.Dec.{leb}
-use lib.ListN.{drop, get_or, length, set}
-use mathlib.Core.Bool.{Bool, ◌||◌, cond, false, true}
+use lib.ListN.{drop, drop_of_length-le, get_or, length, set}
+use lib.Seq.{drop-cons}
+use mathlib.Core.Bool.{Bool, ◌||◌, false, not, true, true≢false}
 use mathlib.Core.List.{List, ◌∷◌}
-use mathlib.Core.Path.{◌∙◌, ◌≡◌, refl, sym}
+use mathlib.Core.Path.{◌∙◌, ◌≡◌, ap, refl, sym}
 use native.Mathlib.Numerals.{add-one}
 use native.Mathlib.Omega.{arith}
+use Rattle.std.specs.Prelude.{Option, Some, None, is_some}
+use Rattle.solver_reading.specs.declared.Phase.{Phase}
+use Rattle.solver_reading.specs.declared.Phase.TheVariants.{Broken}
 use Rattle.solver_reading.specs.declared.State.{State}
-use Rattle.solver_lines.specs.declared.Token.{Token}
-use Rattle.lines.specs.Reading.{first_piece, later_pieces, split}
+use Rattle.solver_lines.specs.Scans.{capped, number_read, signed}
+use Rattle.solver_lines.specs.declared.Number.{Number as Read}
 use Rattle.solver_answer.specs.Lines.{is_number, number}
-use Rattle.solver_answer.proofs.Splits.{split_pieces}
-use Rattle.solver_lines.specs.Scans.{TokenRead}
-use Rattle.solver_reading.specs.Reading.{Run, after_pieces, in_phase, is_wrong, pieces_left, run, take_number}
+use Rattle.solver_reading.specs.Reading.{Run, after_pieces, in_phase, is_wrong, run, take_number}
 
 pub or_true : (b : Bool) → (b || true) ≡ true
 or_true true = refl
@@ -24,47 +26,45 @@ pub or_none : (b : Bool) → (b || false) ≡ b
 or_none true = refl
 or_none false = refl
 
-abbrev made : ℕ → Bool → Bool → Bool → List ℕ → Run
-made p s l w b = run (record { phase = p; seen = s; late = l; wrong = w }) b
+abbrev made : Phase → Bool → Bool → Bool → List (Option Bool) → Run
+made p s l w g = run (record { phase = p; seen = s; late = l; wrong = w }) g
 
-same_run : (p : ℕ) {s s' l l' w w' : Bool} {b b' : List ℕ} → s ≡ s' → l ≡ l' → w ≡ w' → b ≡ b' → made p s l w b ≡ made p s' l' w' b'
+same_run : (p : Phase) {s s' l l' w w' : Bool} {b b' : List (Option Bool)} → s ≡ s' → l ≡ l' → w ≡ w' → b ≡ b' → made p s l w b ≡ made p s' l' w' b'
 same_run p e f g h = cc
 
 -- One number ------------------------------------------------------------------------------------------------------------
 
-module _ (n : ℕ) (st : State) (bytes : List ℕ) (negative : Bool) (size : ℕ) {late : Bool} (is-late : late ≡ (st.late || st.seen)) where
+module _ (n : ℕ) (st : State) (given : List (Option Bool)) (negative : Bool) (size : ℕ) {late : Bool} (is-late : late ≡ (st.late || st.seen)) where
   abbrev taken : Run
-  taken = take_number n (run st bytes) (record { negative = negative; size = size })
+  taken = take_number n (run st given) (record { negative = negative; size = size })
 
-  pub take_zero : size ≡ 0 → made st.phase true late st.wrong bytes ≡ taken
+  pub take_zero : size ≡ 0 → made st.phase true late st.wrong given ≡ taken
   unfolding take_number is_wrong
   take_zero e =
       let t = eq-eqb size 0 e in
       same_run st.phase (sym (rw t (or_true st.seen))) is-late (sym (rw t (or_none st.wrong))) (rw t)
 
-  pub take_unknown : (size ≡ 0 → ⊥) → n < size → made st.phase st.seen late true bytes ≡ taken
+  pub take_unknown : (size ≡ 0 → ⊥) → n < size → made st.phase st.seen late true given ≡ taken
   unfolding take_number is_wrong
   take_unknown e h =
       let t = ne_eqb size 0 e in
       let u = lt-ltb n size h in
       same_run st.phase (sym (rw t (or_none st.seen))) is-late (sym (rw (t, u) (or_true st.wrong))) (rw (t, u))
 
-  pub take_doubled : (size ≡ 0 → ⊥) → size ≤ n → (get_or bytes (size - 1) 0 ≡ 2 → ⊥) → made st.phase st.seen late true bytes ≡ taken
+  pub take_doubled : (size ≡ 0 → ⊥) → size ≤ n → is_some (get_or given (size - 1) None) ≡ true → made st.phase st.seen late true given ≡ taken
   unfolding take_number is_wrong
-  take_doubled e h d =
+  take_doubled e h v =
       let t = ne_eqb size 0 e in
       let u = le-ltb n size h in
-      let v = ne_eqb (get_or bytes (size - 1) 0) 2 d in
       same_run st.phase (sym (rw t (or_none st.seen))) is-late (sym (rw (t, u, v) (or_true st.wrong))) (rw (t, u, v))
 
-  pub take_open : {b : ℕ} → (size ≡ 0 → ⊥) → size ≤ n → get_or bytes (size - 1) 0 ≡ 2 → b ≡ cond negative 0 1
-      → made st.phase st.seen late st.wrong (set bytes (size - 1) b) ≡ taken
+  pub take_open : (size ≡ 0 → ⊥) → size ≤ n → is_some (get_or given (size - 1) None) ≡ false
+      → made st.phase st.seen late st.wrong (set given (size - 1) (Some (not negative))) ≡ taken
   unfolding take_number is_wrong
-  take_open e h d w =
+  take_open e h v =
       let t = ne_eqb size 0 e in
       let u = le-ltb n size h in
-      let v = eq-eqb (get_or bytes (size - 1) 0) 2 d in
-      same_run st.phase (sym (rw t (or_none st.seen))) is-late (sym (rw (t, u, v) (or_none st.wrong))) (rw (t, u, v, w))
+      same_run st.phase (sym (rw t (or_none st.seen))) is-late (sym (rw (t, u, v) (or_none st.wrong))) (rw (t, u, v))
 
 -- numbers above 65536 are as unknown as 65536
 take_capped : (n : ℕ) (r : Run) (negative : Bool) (s : ℕ) → n ≤ 65535
@@ -76,41 +76,55 @@ take_capped n r negative s h = by (leb s 65536) refl
     by false q =
         let t = leb-false s 65536 q in
         let k : n < min s 65536 = omega (arith, t) in
-        sym (take_unknown n r.state r.bytes negative (min s 65536) refl (λ z. omega (arith, z, t)) k)
-        ∙ take_unknown n r.state r.bytes negative s refl (λ z. omega (arith, z, t)) (omega (arith, t))
+        sym (take_unknown n r.state r.given negative (min s 65536) refl (λ z. omega (arith, z, t)) k)
+        ∙ take_unknown n r.state r.given negative s refl (λ z. omega (arith, z, t)) (omega (arith, t))
 
 -- The numbers of a line -------------------------------------------------------------------------------------------------
 
-abbrev rest : List ℕ → ℕ → List (List ℕ)
-rest l at = split 32 (drop at l)
+-- a piece is read as a number, or is none
+number_none : (t : List ℕ) → number_read t ≡ None → is_number t ≡ false
+unfolding number_read
+number_none t e = by (is_number t) refl
+  where
+    by : (b : Bool) → is_number t ≡ b → b ≡ false
+    by true q = let z : is_some (number_read t) ≡ true = rw q in absurd (true≢false (sym z ∙ ap is_some e))
+    by false q = refl
 
-module _ (n : ℕ) (r : Run) (l : List ℕ) (at : ℕ) {t : Token} (within : at ≤ length l) (read : TokenRead l at t) where
-  here : pieces_left l at ≡ first_piece (rest l at) ∷ later_pieces (rest l at)
-  here = rw (le-leb at (length l) within) (split_pieces 32 (drop at l))
+number_some : (t : List ℕ) {m : Read} → number_read t ≡ Some m → (is_number t ≡ true) × (m ≡ capped (number t))
+unfolding number_read
+number_some t {m} e = by (is_number t) refl
+  where
+    by : (b : Bool) → is_number t ≡ b → (is_number t ≡ true) × (m ≡ capped (number t))
+    by true q = let z : Some (capped (number t)) ≡ Some m = rw q at e in (q, let y : m ≡ capped (number t) = cc in y)
+    by false q = let z : None ≡ Some m = rw q at e in absurd (true≢false (sym (ap is_some z)))
 
-  pub pieces_turn : {q g : Run} → n ≤ 65535 → t.good ≡ true → q ≡ take_number n r (record { negative = t.negative; size = t.size })
-      → after_pieces n r (pieces_left l at) ≡ g → after_pieces n q (pieces_left l (t.end + 1)) ≡ g
-  unfolding after_pieces
-  pieces_turn {q} {g} h k e z =
-      let p = read.piece k in
-      let num = number (first_piece (rest l at)) in
-      let a : q ≡ take_number n r num = e ∙ rw (p.negative, p.size) (take_capped n r num.negative num.size h) in
-      let b : pieces_left l (t.end + 1) ≡ later_pieces (rest l at) = rw add-one (sym (p.later ∙ rw add-one)) in
-      rw (a, b) (step (sym read.good ∙ k) (rw here at z))
-    where
-      step : is_number (first_piece (rest l at)) ≡ true → after_pieces n r (first_piece (rest l at) ∷ later_pieces (rest l at)) ≡ g → after_pieces n (take_number n r (number (first_piece (rest l at)))) (later_pieces (rest l at)) ≡ g
-      step i z = rw i at z
-
-  pub pieces_stop : {g : Run} → t.good ≡ false → after_pieces n r (pieces_left l at) ≡ g → in_phase r 3 ≡ g
-  unfolding after_pieces
-  pieces_stop {g} k z = step (sym read.good ∙ k) (rw here at z)
-    where
-      step : is_number (first_piece (rest l at)) ≡ false → after_pieces n r (first_piece (rest l at) ∷ later_pieces (rest l at)) ≡ g → in_phase r 3 ≡ g
-      step i z = rw i at z
-
-pub pieces_start : (n : ℕ) (r : Run) (l : List ℕ) (from : ℕ) → from ≤ length l → after_pieces n r (pieces_left l from) ≡ after_pieces n r (split 32 (drop from l))
-pieces_start n r l from h = rw (le-leb from (length l) h)
-
-pub pieces_end : (n : ℕ) (r : Run) (l : List ℕ) (at : ℕ) {g : Run} → length l < at → after_pieces n r (pieces_left l at) ≡ g → r ≡ g
+pieces_stop : (n : ℕ) (r : Run) (t : List ℕ) (ts : List (List ℕ)) → number_read t ≡ None → after_pieces n r (t ∷ ts) ≡ in_phase r Broken
 unfolding after_pieces
-pieces_end n r l at h z = rw (lt-leb at (length l) h) at z
+pieces_stop n r t ts e = rw (number_none t e)
+
+pieces_more : (n : ℕ) (r : Run) (t : List ℕ) (ts : List (List ℕ)) {m : Read} → n ≤ 65535 → number_read t ≡ Some m → after_pieces n r (t ∷ ts) ≡ after_pieces n (take_number n r (signed m)) ts
+unfolding after_pieces
+pieces_more n r t ts {m} h e =
+    let s = number_some t e in
+    rw (s.0, s.1, take_capped n r (number t).negative (number t).size h)
+
+-- where k pieces are read, the next is the piece at hand
+pub piece_here : (all : List (List ℕ)) (k : ℕ) {t : List ℕ} → (k < length all) × (t ≡ get_or all k t) → drop k all ≡ t ∷ drop (k + 1) all
+piece_here all k {t} h = rw add-one (drop-cons all k t h.0 ∙ ap (λ (u : List ℕ). u ∷ drop (suc k) all) (sym h.1))
+
+module _ (n n' : ℕ) (r : Run) (all : List (List ℕ)) (k : ℕ) (t : List ℕ) {g : Run} (same : n' ≡ n) (here : drop k all ≡ t ∷ drop (k + 1) all)
+    (left : after_pieces n' r (drop k all) ≡ g) where
+  pub pieces_broken : number_read t ≡ None → in_phase r Broken ≡ g
+  pieces_broken e = sym (pieces_stop n' r t (drop (k + 1) all) e) ∙ ap (after_pieces n' r) (sym here) ∙ left
+
+  pub pieces_turn : {q : Run} {k' n'' : ℕ} {m : Read} → n ≤ 65535 → n'' ≡ n → k' ≡ k + 1 → number_read t ≡ Some m → q ≡ take_number n' r (signed m)
+      → after_pieces n'' q (drop k' all) ≡ g
+  pieces_turn {q} {k'} {n''} {m} h s l e w =
+      let f : n' ≤ 65535 = omega (arith, same, h) in
+      let z : n'' ≡ n' = omega (arith, same, s) in
+      rw (z, l, w) (sym (pieces_more n' r t (drop (k + 1) all) f e) ∙ ap (after_pieces n' r) (sym here) ∙ left)
+
+-- and none is left at the end
+pub pieces_end : (n : ℕ) (r : Run) (all : List (List ℕ)) (k : ℕ) {g : Run} → k ≡ length all → after_pieces n r (drop k all) ≡ g → r ≡ g
+unfolding after_pieces
+pieces_end n r all k e h = let l : length all ≤ k = omega (arith, e) in rw (drop_of_length-le all l) at h

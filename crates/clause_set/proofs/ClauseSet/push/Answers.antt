@@ -1,5 +1,5 @@
 -- `ClauseSet::push` meets its contract.
-use mathlib.Core.Path.{◌≡◌, ap, refl, ◌∙◌}
+use mathlib.Core.Path.{◌≡◌, ap, ◌∙◌}
 use mathlib.Core.List.{List, map}
 use Prim.Native.Nat.{ℕ, ◌+◌}
 use native.Mathlib.Omega.{arith}
@@ -22,8 +22,8 @@ loop-i-preserved c =
           ∙ lits_more s.lits.now s.used.lits xs l.i (omega arith),
     )
 
-pub returns : goal.returns
-returns c =
+pub returns-clause-added : goal.returns-clause-added
+returns-clause-added c =
     let l = c.loop-i in
     let s = c.args.self.now in
     let xs = c.args.clause.now in
