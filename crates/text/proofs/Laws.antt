@@ -77,10 +77,15 @@ printed t before after e h w =
     let fits : length t ≤ length before = omega (arith, e) in
     record { size = e; bytes = rw (le-leb (length t) (length before) fits) (ap (λ (x : Text). x.bytes) (w ∙ write_fits t before 0 (omega arith)) ∙ sets-eq t before 0 (omega arith) ∙ ap (λ (n : ℕ). t ++ drop n before) (zero-add (length t))) }
 
+-- what a writer that began at the slice's start leaves in it
+pub written_by : (t before : List ℕ) {after : List ℕ} {s u : Writer} → text_of s ≡ text before 0 → Wrote s t u → after ≡ u.out.now
+    → text after u.at ≡ write (text before 0) t
+written_by t before b w a = rw a (w.text ∙ ap (λ (x : Text). write x t) b)
+
 -- the same of a writer that began there, where the slice is then as the writer left it
 pub printed_by : (t before : List ℕ) {after : List ℕ} {n : ℕ} {s u : Writer} → n ≡ length t → n ≤ length before → text_of s ≡ text before 0 → Wrote s t u
     → after ≡ u.out.now → Printed t before n after
-printed_by t before e h b w a = rw a (printed t before _ e h (w.text ∙ ap (λ (x : Text). write x t) b))
+printed_by t before e h b w a = printed t before _ e h (written_by t before b w a)
 
 -- one that does not
 pub not_printed : (t before : List ℕ) {n : ℕ} → n ≡ length t → length before < n → Printed t before n before

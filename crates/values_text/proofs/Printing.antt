@@ -7,38 +7,52 @@ use mathlib.Core.List.{List, [], ◌++◌, ◌∷◌}
 use mathlib.Core.Path.{◌≡◌}
 use native.Mathlib.Numerals.{add-one}
 use native.Mathlib.Omega.{arith}
-use Rattle.text.specs.Bytes.{Text, write}
+use Rattle.std.proofs.Common.{Result, Ok, Err, pos, refl}
+use Rattle.std.specs.Result.{result_unwrap_or}
+use Rattle.refusal.specs.declared.Refusal.{Refusal}
+use Rattle.encoder_env.specs.declared.EncoderEnv.{EncoderEnv}
+use Rattle.encoder_answer.specs.Outcome.{reads}
+use Rattle.text.specs.declared.Writer.{Writer}
+use Rattle.text.specs.Bytes.{Wrote}
 use Rattle.text.specs.Decimal.{decimal, integer}
-use Rattle.text.proofs.Laws.{rest_after, write_then}
+use Rattle.text.proofs.Laws.{Writing, writing_end, writing_more, wrote_both}
 use Rattle.values_text.specs.Values.{lines_from, no_end, setting_line, setting_word, switch_line, switch_word, yes_end}
 
 -- A line -------------------------------------------------------------------------------------------------------------
 
 -- y is the value as the code hands it over
-pub wrote_setting : (s : Text) (i : ℕ) (z : ℤ) {y : ℤ} {t u v w x : Text} → y ≡ z → t ≡ write s setting_word → u ≡ write t (decimal i)
-    → v ≡ write u (32 ∷ []) → w ≡ write v (integer y) → x ≡ write w (10 ∷ []) → x ≡ write s (setting_line i z)
+pub wrote_setting : {s t u v w x : Writer} (i : ℕ) (z : ℤ) {y : ℤ} → y ≡ z → Wrote s setting_word t → Wrote t (decimal i) u
+    → Wrote u (32 ∷ []) v → Wrote v (integer y) w → Wrote w (10 ∷ []) x → Wrote s (setting_line i z) x
 unfolding setting_line
-wrote_setting s i z {t = t} {u = u} {v = v} e a b c d f =
-    write_then s setting_word (decimal i ++ (32 ∷ (integer z ++ (10 ∷ [])))) a
-    (write_then t (decimal i) (32 ∷ (integer z ++ (10 ∷ []))) b
-    (write_then u (32 ∷ []) (integer z ++ (10 ∷ [])) c
-    (write_then v (integer z) (10 ∷ []) (rw e at d) f)))
+wrote_setting i z e a b c d f =
+    wrote_both setting_word (decimal i ++ (32 ∷ (integer z ++ (10 ∷ [])))) a
+    (wrote_both (decimal i) (32 ∷ (integer z ++ (10 ∷ []))) b
+    (wrote_both (32 ∷ []) (integer z ++ (10 ∷ [])) c
+    (wrote_both (integer z) (10 ∷ []) (rw e at d) f)))
 
--- w is what the test of the byte has chosen
-pub wrote_switch : (s : Text) (n b : ℕ) (w : List ℕ) {t u v : Text} → cond (eqb b 1) yes_end no_end ≡ w → t ≡ write s switch_word
-    → u ≡ write t (decimal n) → v ≡ write u w → v ≡ write s (switch_line n b)
+-- a setting's line, of the value that the code read
+pub setting_read : {s u : Writer} (i : ℕ) {y z : ℤ} → y ≡ z → Wrote s (setting_line i y) u → Wrote s (setting_line i z) u
+setting_read i e w = rw e at w
+
+pub read_value : (env : EncoderEnv) (r : Result ℤ Refusal) → result_unwrap_or r (pos 0) ≡ (reads env r).value
+read_value env (Ok z) = refl
+read_value env (Err e) = refl
+
+-- e is the end as the code hands it over
+pub wrote_switch : {s t u v : Writer} (n b : ℕ) {e : List ℕ} → e ≡ cond (eqb b 1) yes_end no_end → Wrote s switch_word t
+    → Wrote t (decimal n) u → Wrote u e v → Wrote s (switch_line n b) v
 unfolding switch_line
-wrote_switch s n b w {t} e p q r = rw e (write_then s switch_word (decimal n ++ w) p (write_then t (decimal n) w q r))
+wrote_switch n b q a c d = wrote_both switch_word (decimal n ++ cond (eqb b 1) yes_end no_end) a (wrote_both (decimal n) (cond (eqb b 1) yes_end no_end) c (rw q at d))
 
 -- Lines one after the other ------------------------------------------------------------------------------------------
 
-module _ (line : ℕ → List ℕ) (k n : ℕ) (t : Text) where
-  pub lines_turn : {u g : Text} → k < n → u ≡ write t (line k) → write t (lines_from line k (n - k)) ≡ g → write u (lines_from line (k + 1) (n - (k + 1))) ≡ g
+module _ (line : ℕ → List ℕ) (k n : ℕ) {s t : Writer} {all : List ℕ} where
+  pub lines_turn : {u : Writer} → k < n → Writing s all t (lines_from line k (n - k)) → Wrote t (line k) u → Writing s all u (lines_from line (k + 1) (n - (k + 1)))
   unfolding lines_from
-  lines_turn h a q =
+  lines_turn h q a =
       let e : n - k ≡ suc (n - suc k) = omega arith in
-      rw add-one (rest_after t (line k) (lines_from line (suc k) (n - suc k)) a (rw e at q))
+      rw add-one (writing_more (line k) (lines_from line (suc k) (n - suc k)) (rw e at q) a)
 
-  pub lines_end : {g : Text} → n ≤ k → write t (lines_from line k (n - k)) ≡ g → t ≡ g
-  unfolding lines_from write
-  lines_end h q = let e : n - k ≡ 0 = omega arith in rw e at q
+  pub lines_end : n ≤ k → Writing s all t (lines_from line k (n - k)) → Wrote s all t
+  unfolding lines_from
+  lines_end h q = let e : n - k ≡ 0 = omega arith in writing_end (rw e at q)

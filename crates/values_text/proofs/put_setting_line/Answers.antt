@@ -7,4 +7,4 @@ use Rattle.values_text.proofs.put_setting_line.Goals as goal
 pub returns : goal.returns
 returns c =
     let a = c.args in
-    wrote_setting _ a.i a.z (to_z-of_z w32 a.z c.ranges.z) c.put_bytes-to.ensures c.put_decimal-to.ensures c.put-to.ensures c.put_integer-to.ensures c.put.ensures
+    wrote_setting a.i a.z (to_z-of_z w32 a.z c.ranges.z) c.put_bytes.ensures c.put_decimal.ensures c.put.ensures c.put_integer.ensures c.put-2.ensures

@@ -1,15 +1,10 @@
 -- `values_text::put_switch_line` meets its contract.
-use borrow.Author.Tests.{eq-eqb, ne_eqb}
-use Rattle.values_text.specs.Values.{no_end, yes_end}
+use Rattle.std.proofs.Common.{rules}
 use Rattle.values_text.proofs.Printing.{wrote_switch}
 use Rattle.values_text.proofs.put_switch_line.Goals as goal
-
-pub returns-then-b-eq1 : goal.returns-then-b-eq1
-returns-then-b-eq1 c =
-    let a = c.args in
-    wrote_switch _ a.s a.b yes_end (rw (eq-eqb a.b 1 c.if-b-eq1.true)) c.put_bytes-to.ensures c.put_decimal-to.ensures c.put_bytes.ensures
+use Rattle.values_text.proofs.put_switch_line.Goals.{then-b-eq1, else-b-eq1}
 
 pub returns : goal.returns
 returns c =
-    let a = c.args in
-    wrote_switch _ a.s a.b no_end (rw (ne_eqb a.b 1 c.if-b-eq1.false)) c.put_bytes-to.ensures c.put_decimal-to.ensures c.put_bytes-2.ensures
+    wrote_switch c.args.s c.args.b (elim c.if-b-eq1.branch [ then-b-eq1 w ↦ search rules | else-b-eq1 w ↦ search rules ])
+    c.put_bytes.ensures c.put_decimal.ensures c.put_bytes-2.ensures

@@ -1,5 +1,6 @@
 -- `values_text::put_values` meets its contract.
-use Rattle.text.proofs.Laws.{write_then}
+use Rattle.std.proofs.Common.{rules}
+use Rattle.text.proofs.Laws.{written_by, wrote_both}
 use Rattle.values_text.specs.Values.{settings_from, switches_from, values_text}
 use Rattle.values_text.proofs.put_values.Goals as goal
 
@@ -7,4 +8,6 @@ pub returns : goal.returns
 unfolding values_text
 returns c =
     let a = c.args in
-    write_then _ (settings_from a.env a.lits.now a.ends.now a.assignment.now 0 a.env.count) (switches_from a.assignment.now 0 a.env.switches) c.put_settings-to.ensures c.put_switches.ensures
+    let settings = settings_from a.env a.lits.now a.ends.now a.assignment.now 0 a.env.count in
+    let switches = switches_from a.assignment.now 0 a.env.switches in
+    written_by _ _ c.new-w.ensures.text (wrote_both settings switches c.put_settings.ensures c.put_switches.ensures) (search rules)
