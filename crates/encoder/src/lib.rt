@@ -2,7 +2,6 @@
 // `requires`: what does not fit is refused by a number.
 #![tactic(auto)]
 
-pub use encoder_answer::Answer;
 pub use encoder_env::EncoderEnv;
 pub use encoder_figures::{Figures, linear_figures, mul_figures};
 pub use encoder_linear::encode_linear;

@@ -1,18 +1,21 @@
 -- What the leaf functions of a setting call say of its outcome.
-use mathlib.Core.Path.{◌≡◌, ◌∙◌, ap}
-use mathlib.Core.Bool.{◌&&◌, false≢true, true}
+use mathlib.Core.Path.{◌≡◌, ◌∙◌, ap, refl, sym}
+use mathlib.Core.Bool.{◌&&◌, cond, false≢true, true}
 use mathlib.Core.List.{List, [], ◌∷◌}
-use Prim.Native.Nat.{◌*◌, ◌+◌, ◌-◌, ◌<◌, ◌≤◌, ◌^◌, suc, ℕ}
+use Prim.Native.Nat.{◌*◌, ◌+◌, ◌-◌, ◌<◌, ◌≤◌, suc, ℕ}
 use lib.Dec.{leb, lit<, ltb}
 use lib.IntN.{pos, ℤ}
 use lib.ListN.{get_or, length}
 use lib.Signed.{lt_z}
 use native.Mathlib.Numerals.{add-one}
 use native.Mathlib.Omega.{arith}
-use borrow.Author.Tests.{ltb-true}
+use borrow.Author.Tests.{le-leb, lt-ltb, ltb-true}
+use Rattle.std.specs.Prelude.{Some}
+use Rattle.refusal.specs.Number.{number}
+use Rattle.refusal.specs.declared.Refusal.{Refusal}
 use Rattle.arithmetic.specs.Integers.{down}
 use Rattle.clause_set.specs.declared.Counts.{Counts}
-use Rattle.clause_set.specs.Stores.{after}
+use Rattle.clause_set.specs.Stores.{add_clauses, after}
 use Rattle.norm_csp.proofs.NormCsp.{KnownVar}
 use Rattle.norm_csp.specs.Domain.{IntVarRepresentation, RisingFrom, binary, last_from, list, range}
 use Rattle.log_var.specs.Calls.{Ready, VarAdded, lowest}
@@ -22,22 +25,14 @@ use Rattle.log_var.proofs.Calls.{last_at}
 use Rattle.log_var.specs.declared.EncodedVar.{EncodedVar}
 use Rattle.encoder_env.specs.declared.EncoderEnv.{EncoderEnv}
 use Rattle.encoder_env.specs.WellFormed.{bounds_hold, code_fits, in_range, lez, well_formed}
-use Rattle.encoder_env.proofs.Kept.{Kept, all_at, kept}
+use Rattle.encoder_env.proofs.Kept.{Kept, all_at, kept, well_formed_of}
 use Rattle.encoder_env.proofs.Tests.{both, bounds_known, lt_lez, order_lez}
-use Rattle.encoder_answer.specs.declared.Answer.{Answer}
-use Rattle.encoder_var.specs.Settings.{all_in_range, rising, setting_checks, setting_outcome, setting_status, var_checks, with_encoding}
+use Rattle.encoder_answer.specs.declared.Written.{Written}
+use Rattle.encoder_answer.specs.Call.{CallWrote, Settles}
+use Rattle.encoder_var.specs.Settings.{all_in_range, rising, setting_checks, setting_given, var_checks}
 use Rattle.encoder_answer.specs.Adding.{counts_of}
-use Rattle.encoder_answer.specs.Outcome.{Answers, status_of}
-use Rattle.encoder_var.specs.Sizes.{SizeOf, job_after}
-use Rattle.encoder_answer.proofs.Answering.{AddingCall, all_passed, call_accepted, counted, counts_fit}
-use Rattle.encoder_answer.proofs.Statuses.{Numbered, numbered_both, passed}
-
--- the counts after a setting that was added
-pub sized : (repr : IntVarRepresentation) (vars : ℕ) (at : Counts) {d e d₁ e₁ : List ℕ} {r : EncodedVar}
-    → VarAdded repr vars (after d e at) r (after d₁ e₁ r.used) → SizeOf repr vars at r
-sized repr vars at {d} {e} w =
-    let n = counted (encode_var_log repr vars).clauses at d e w.stores in
-    record { vars_are = w.vars_are; lits_are = n.0; clauses_are = n.1 }
+use Rattle.encoder_answer.specs.Outcome.{Check, Numbered, check, status_of}
+use Rattle.encoder_answer.proofs.Statuses.{number_some, numbered_both, passed, stops, then_rest}
 
 -- a job with a free record, and arguments that the leaf function takes
 pub record Admitted (env : EncoderEnv) (lits ends : ℕ) (repr : IntVarRepresentation) : Type 0 where
@@ -148,36 +143,50 @@ numbered env lits ends repr = (lit< tt, numbered_both (var_checks env.switches r
 
 -- The call -----------------------------------------------------------------------------------------------------------
 
-abbrev pub setting_call : (env : EncoderEnv) (lits ends : ℕ) (repr : IntVarRepresentation) → AddingCall env lits ends
-setting_call env lits ends repr =
-    let out = encode_var_log repr env.variables in
-    record {
-      checks = setting_checks env lits ends repr;
-      numbered = numbered env lits ends repr;
-      holds = λ h. (admitted env lits ends repr h).holds;
-      clauses = out.clauses;
-      job = with_encoding env out;
-    }
+module _ (env : EncoderEnv) (lits ends : ℕ) (repr : IntVarRepresentation) where
+  -- what the checks settle
+  pub setting_settles : Settles env lits ends (setting_checks env lits ends repr) (setting_given env repr)
+  setting_settles =
+      record {
+        numbered = numbered env lits ends repr;
+        formed = λ h. well_formed_of env lits ends (admitted env lits ends repr h).holds;
+        free = λ h e some. (admitted env lits ends repr h).free;
+      }
 
-pub setting_ready : (env : EncoderEnv) (lits ends : ℕ) (repr : IntVarRepresentation) → status_of (setting_checks env lits ends repr) ≡ 0
-    → {at : Counts} → at ≡ counts_of env → Ready repr env.variables at
-setting_ready env lits ends repr h k = rw k (admitted env lits ends repr h).ready
+  abbrev own : List Check
+  own = var_checks env.switches repr
+
+  abbrev last : List Check
+  last = check (ltb env.count 32) 7 ∷ []
+
+  -- the arguments are refused, or the number of free records decides
+  pub arguments_refused : well_formed env lits ends ≡ true → (x : Refusal) → number x ≡ status_of own → number x ≡ status_of (setting_checks env lits ends repr)
+  arguments_refused w x h = let some = number_some x in rw w (h ∙ sym (stops own last (λ z. omega arith)))
+
+  pub free_decides : well_formed env lits ends ≡ true → 0 ≡ status_of own → status_of (setting_checks env lits ends repr) ≡ cond (ltb env.count 32) 0 7
+  free_decides w h = rw w (then_rest own last (var_numbered env.switches repr) (sym h))
 
 -- the setting was written
-module _ (env : EncoderEnv) (lits ends : List ℕ) (repr : IntVarRepresentation) {r : ℕ} (s : r ≡ setting_status env (length lits) (length ends) repr) (z : r ≡ 0)
-    {at : Counts} (k : at ≡ counts_of env) {lits₁ ends₁ : List ℕ} {new : EncodedVar}
-    (w : VarAdded repr env.variables (after lits ends at) new (after lits₁ ends₁ new.used)) where
-  abbrev call : AddingCall env (length lits) (length ends)
-  call = setting_call env (length lits) (length ends) repr
+pub setting_wrote : (env : EncoderEnv) (repr : IntVarRepresentation) (lits ends : List ℕ) {at : Counts} → at ≡ counts_of env → {lits₁ ends₁ : List ℕ} {new : EncodedVar}
+    → VarAdded repr env.variables (after lits ends at) new (after lits₁ ends₁ new.used)
+    → {w : Written} → w ≡ record { vars = new.vars; used = new.used; setting = Some new.encoding }
+    → CallWrote env (setting_given env repr) lits ends w lits₁ ends₁
+setting_wrote env repr lits ends k v e =
+    rw e
+    (record {
+      clauses = v.stores ∙ ap (λ (c : Counts). add_clauses 0 (encode_var_log repr env.variables).clauses (after lits ends c)) k;
+      vars = v.vars_are;
+      setting = ap Some v.encoding;
+    })
 
-  -- what `accepted` asks
-  pub setting_fits : (env.count < 32) × (new.used.clauses < 2 ^ 32) × (new.used.lits < 2 ^ 32)
-  setting_fits =
-      let f = counts_fit lits ends call s z k w.stores in
-      ((admitted env (length lits) (length ends) repr (all_passed call s z)).free, f.0, f.1)
+-- The arguments, by their last check -----------------------------------------------------------------------------------
 
-  pub setting_added : {a : Answer} → a ≡ record { status = 0; env = job_after env new; value = pos 0 } → Answers (setting_outcome env lits ends repr) a lits₁ ends₁
-  setting_added e =
-      let n = rw k at (sized repr env.variables at w) in
-      let same : job_after env new ≡ call.job = rw (n.vars_are, n.lits_are, n.clauses_are, w.encoding) in
-      call_accepted lits ends call s z k w.stores (e ∙ ap (λ (j : EncoderEnv). record { status = 0; env = j; value = pos 0 }) same)
+module _ (switches : ℕ) where
+  pub list_decides : (ks : List ℤ) → 1 ≤ length ks → length ks ≤ 64 → all_in_range ks ≡ true → rising ks ≡ true
+      → status_of (var_checks switches (list ks)) ≡ cond (bounds_hold (get_or ks 0 (pos 0)) (get_or ks (length ks - 1) (pos 0))) 0 3
+  list_decides ks n m inside rises =
+      rw (le-leb 1 (length ks) n, le-leb (length ks) 64 m, inside, rises, list_bounds ks n inside rises) refl
+
+  pub binary_decides : (c : ℕ) (f t : ℤ) → c < 2 * switches → in_range f ≡ true → in_range t ≡ true → lt_z f t ≡ true
+      → status_of (var_checks switches (binary c f t)) ≡ cond (bounds_hold f t) 0 3
+  binary_decides c f t s a b l = rw (lt-ltb c (2 * switches) s, a, b, l, bounds_code f t a b (lt_lez f t l)) refl

@@ -1,4 +1,3 @@
 pub mod Settings
-pub mod Sizes
 pub mod Encoded
 pub mod Accepted

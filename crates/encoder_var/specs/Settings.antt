@@ -1,5 +1,5 @@
 -- The outcome of a range, a list and two values on every input (document 01: operation by operation).
-use Rattle.std.specs.Prelude.{◌*◌, ◌+◌, ◌-◌, ℕ, leb, ltb, pos, ℤ, get_or, length, Bool, ◌&&◌, List, [], ◌++◌, ◌∷◌}
+use Rattle.std.specs.Prelude.{◌*◌, ◌+◌, ◌-◌, ℕ, leb, ltb, pos, ℤ, get_or, length, Bool, ◌&&◌, List, [], ◌++◌, ◌∷◌, Some}
 use Rattle.std.specs.Int.Signed.{lt_z}
 use Rattle.norm_csp.specs.Domain.{IntVarRepresentation, binary, list, range}
 use Rattle.log_encoding.specs.EncodeVarLog.{EncodedVar, encode_var_log}
@@ -7,6 +7,7 @@ use Rattle.log_var.specs.Record.{record_of}
 use Rattle.encoder_env.specs.declared.EncoderEnv.{EncoderEnv}
 use Rattle.encoder_env.specs.WellFormed.{all_below, bounds_hold, code_fits, in_range, well_formed}
 use Rattle.encoder_answer.specs.Adding.{adding, adding_status, grown, with_record}
+use Rattle.encoder_answer.specs.Call.{Addition}
 use Rattle.encoder_answer.specs.Outcome.{Check, Outcome, check}
 
 abbrev pub all_in_range : List ℤ → Bool
@@ -36,6 +37,12 @@ setting_checks env lits ends repr =
 -- the job with the setting's clauses and its record
 abbrev pub with_encoding : EncoderEnv → EncodedVar → EncoderEnv
 with_encoding env out = with_record (grown env out.vars out.clauses) (record_of out.encoding)
+
+-- the clauses and the record of a new setting
+abbrev pub setting_given : EncoderEnv → IntVarRepresentation → Addition
+setting_given env repr =
+    let out = encode_var_log repr env.variables in
+    record { clauses = out.clauses; vars = out.vars; setting = Some (record_of out.encoding) }
 
 -- the number of all checks
 abbrev pub setting_status : EncoderEnv → ℕ → ℕ → IntVarRepresentation → ℕ

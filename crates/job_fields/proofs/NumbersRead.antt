@@ -7,9 +7,10 @@ use mathlib.Core.List.{List, [], ◌++◌, ◌∷◌, append_assoc, append-nil}
 use lib.IntN.{◌-ℤ◌, negsuc, pos, ℤ}
 use lib.ListN.{drop, get_or, length, length-drop, length-set, set, take}
 use lib.Seq.{drop-cons, take-suc-set}
-use borrow.Author.Tests.{le-ltb, lt-ltb}
-use mir.Syntax.{w32}
-use mir.Val.{SFits}
+use borrow.Author.Tests.{le-ltb, lt-ltb, ltb-false, ltb-true}
+use mathlib.Core.Bool.{Bool, false, true}
+use lib.Dec.{ltb}
+use mir.Val.{sel}
 use Rattle.job_fields.specs.Numbers.{signed, signed_word, terms, values, word_at}
 
 -- −1 − k
@@ -17,20 +18,28 @@ below_zero : (k : ℕ) → negsuc 0 -ℤ pos k ≡ negsuc k
 below_zero zero = refl
 below_zero (suc k) = ap negsuc (omega arith)
 
-pub below_fits : (k : ℕ) → k < 2147483648 → SFits w32 (negsuc 0 -ℤ pos k)
-below_fits k h = rw (below_zero k) (record { sfits = h })
-
-pub signed_low : (half n : ℕ) → n < half → pos n ≡ signed half n
+signed_low : (half n : ℕ) → n < half → pos n ≡ signed half n
 unfolding signed
 signed_low half n h = rw (lt-ltb n half h)
 
-pub signed_high : (half n : ℕ) → half ≤ n → n < 2 * half → negsuc 0 -ℤ pos (half - 1 - (n - half)) ≡ signed half n
+signed_high : (half n : ℕ) → half ≤ n → n < 2 * half → negsuc 0 -ℤ pos (half - 1 - (n - half)) ≡ signed half n
 unfolding signed
 signed_high half n h g =
     let e : 2 * half ≡ suc (2 * half - 1) = omega arith in
     let f : half - 1 - (n - half) ≡ 2 * half - suc n = omega arith in
     let t : n < suc (2 * half - 1) = omega arith in
     rw (below_zero (half - 1 - (n - half)), le-ltb n half h, f, e) (rw (lt-ltb n (suc (2 * half - 1)) t) refl)
+
+-- the bits of a two's complement
+pub bits_signed : (half n : ℕ) → n < 2 * half → sel (ltb n half) (pos n) (negsuc (2 * half - suc n)) ≡ signed half n
+bits_signed half n h = go (ltb n half) refl
+  where
+    go : (t : Bool) → ltb n half ≡ t → sel t (pos n) (negsuc (2 * half - suc n)) ≡ signed half n
+    go true e = signed_low half n (ltb-true n half e)
+    go false e =
+        let k : half ≤ n = ltb-false n half e in
+        let m : 2 * half - suc n ≡ half - 1 - (n - half) = omega arith in
+        ap negsuc m ∙ sym (below_zero (half - 1 - (n - half))) ∙ signed_high half n k h
 
 pub values_length : (s : List ℕ) → length (values s) ≡ length s / 2
 unfolding values

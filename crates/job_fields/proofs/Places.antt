@@ -5,14 +5,12 @@ use mathlib.Core.Path.{◌≡◌, ap, refl, sym}
 use mathlib.Core.Bool.{Bool, cond, false, not, true, true≢false}
 use mathlib.Core.List.{List, [], ◌∷◌}
 use lib.Dec.{eqb, leb, ltb}
-use lib.ListN.{drop, drop_of_length-le, get_or, length, length-drop}
+use lib.ListN.{drop, drop_of_length-le, get_or, length, length-drop, take}
 use lib.Seq.{drop-cons, drop-drop}
-use borrow.Author.Tests.{eq-eqb, eqb-true, le-leb, le-ltb, leb-false, leb-true, lt-leb, lt-ltb, ltb-false, ltb-true, ne_eqb}
+use borrow.Author.Tests.{eqb-true, le-leb, le-ltb, leb-false, leb-true, lt-leb, lt-ltb, ltb-false, ltb-true, ne_eqb}
 use Rattle.job_fields.specs.Numbers.{word_at}
 use Rattle.job_fields.specs.Fields.{broken, fields, right_length, right_place}
-use Rattle.job_fields.specs.Places.{field_at, fields_from, number_at}
-use Rattle.job_fields.specs.declared.fields.FieldAt.{FieldAt}
-use Rattle.job_fields.specs.declared.fields.FieldAt.TheVariants.{Broken, Contents, End}
+use Rattle.job_fields.specs.Places.{Broken, Contents, End, field_at, fields_from}
 
 -- What the code's tests come to ------------------------------------------------------------------------------------------
 
@@ -30,7 +28,7 @@ module _ (s : List ℕ) (at : ℕ) where
   contents_broken {n} h g e k = rw (lt-ltb at (length s) h, le-leb 3 (length s - at) g, ← e, lt-leb n (length s - (at + 3)) k)
 
   pub field_whole : {n : ℕ} → at < length s → 3 ≤ length s - at → n ≡ word_at s (at + 1) → n ≤ length s - (at + 3)
-      → Contents (get_or s at 0) (at + 3) (at + 3 + n) ≡ field_at s at
+      → Contents (get_or s at 0) (take n (drop (at + 3) s)) (at + 3 + n) ≡ field_at s at
   unfolding field_at
   field_whole {n} h g e k = rw (lt-ltb at (length s) h, le-leb 3 (length s - at) g, ← e, le-leb n (length s - (at + 3)) k)
 
@@ -58,13 +56,6 @@ first_place i t h = rw h
 pub later_place : (i t : ℕ) → (i ≡ 0 → ⊥) → not (eqb t 1) ≡ right_place i t
 unfolding right_place
 later_place i t h = rw (ne_eqb i 0 h)
-
--- the number at the end of the input
-pub end_first : (index : ℕ) {p : FieldAt} → p ≡ End → index ≡ 0 → 18 ≡ number_at index p
-end_first index e h = rw (e, eq-eqb index 0 h)
-
-pub end_later : (index : ℕ) {p : FieldAt} → p ≡ End → (index ≡ 0 → ⊥) → 0 ≡ number_at index p
-end_later index e h = rw (e, ne_eqb index 0 h)
 
 -- Places and bytes -------------------------------------------------------------------------------------------------------
 
@@ -97,8 +88,7 @@ first_field n s at = go (ltb at (length s)) refl (leb 3 (length s - at)) refl (l
         let b = leb-false 3 (length s - at) q in
         rw (p, q) (short n (drop at s) (rw length-drop (omega (arith, a))) (rw length-drop (omega (arith, b))))
     go true p true q true r =
-        let e : at + 3 + word_at s (at + 1) - (at + 3) ≡ word_at s (at + 1) = omega arith in
-        rw (p, q, r, e, three s at (leb-true 3 (length s - at) q), length-drop (at + 3) s, r) (rw drop-drop)
+        rw (p, q, r, three s at (leb-true 3 (length s - at) q), length-drop (at + 3) s, r) (rw drop-drop)
     go true p true q false r = rw (p, q, r, three s at (leb-true 3 (length s - at) q), length-drop (at + 3) s, r)
 
 -- the same, where n is enough for the bytes left
@@ -108,24 +98,22 @@ fields_at zero s at h = ap (fields_from 0 s) (at_end s at (omega arith))
 fields_at (suc n) s at h = let e : suc n - 1 ≡ n = omega arith in rw e (first_field n s at)
 
 -- where a field's contents lie
-pub record Within (s : List ℕ) (at begin end : ℕ) : Type 0 where
-  pub head : at + 3 ≡ begin
-  pub from : begin ≤ end
+pub record Within (s : List ℕ) (at end : ℕ) : Type 0 where
+  pub from : at + 3 ≤ end
   pub inside : end ≤ length s
 
-pub field_within : (s : List ℕ) (at tag begin end : ℕ) → field_at s at ≡ Contents tag begin end → Within s at begin end
+pub field_within : (s : List ℕ) (at tag : ℕ) (contents : List ℕ) (end : ℕ) → field_at s at ≡ Contents tag contents end → Within s at end
 unfolding field_at
-field_within s at tag begin end e = go (ltb at (length s)) refl (leb 3 (length s - at)) refl (leb (word_at s (at + 1)) (length s - (at + 3))) refl
+field_within s at tag contents end e = go (ltb at (length s)) refl (leb 3 (length s - at)) refl (leb (word_at s (at + 1)) (length s - (at + 3))) refl
   where
-    go : (x : Bool) → ltb at (length s) ≡ x → (y : Bool) → leb 3 (length s - at) ≡ y → (z : Bool) → leb (word_at s (at + 1)) (length s - (at + 3)) ≡ z → Within s at begin end
-    go false p y q z r = let f = rw p at e in let o : ◌≡◌ {A = ℕ} 0 1 = cc in absurd (omega arith)
-    go true p false q z r = let f = rw (p, q) at e in let o : ◌≡◌ {A = ℕ} 0 1 = cc in absurd (omega arith)
-    go true p true q false r = let f = rw (p, q, r) at e in let o : ◌≡◌ {A = ℕ} 0 1 = cc in absurd (omega arith)
+    go : (x : Bool) → ltb at (length s) ≡ x → (y : Bool) → leb 3 (length s - at) ≡ y → (z : Bool) → leb (word_at s (at + 1)) (length s - (at + 3)) ≡ z → Within s at end
+    go false p y q z r = let f = rw p at e in cc
+    go true p false q z r = let f = rw (p, q) at e in cc
+    go true p true q false r = let f = rw (p, q, r) at e in cc
     go true p true q true r =
         let f = rw (p, q, r) at e in
-        let eb : at + 3 ≡ begin = cc in
         let en : at + 3 + word_at s (at + 1) ≡ end = cc in
         let l1 = ltb-true at (length s) p in
         let l2 = leb-true 3 (length s - at) q in
         let l3 = leb-true (word_at s (at + 1)) (length s - (at + 3)) r in
-        record { head = eb; from = omega arith; inside = omega arith }
+        record { from = omega arith; inside = omega arith }

@@ -1,61 +1,40 @@
 // The fields of a job file, by their places in the input.
-ghost use Rattle.std.specs.Prelude.{◌≡◌, drop, length, take, ◌-◌, ◌≤◌};
+ghost use Rattle.std.specs.Prelude.{◌≡◌, IfErr};
 ghost use Rattle.job_fields.specs.Fields.{right_length, right_place};
-ghost use Rattle.job_fields.specs.Places.{field_at, number_at};
+ghost use Rattle.job_fields.specs.Places.{field_at, place_of};
 
 use crate::numbers;
+use refusal::Refusal;
 
-// What stands at a place.
+// A field: its tag, its contents, and where it ends.
 #[derive(Clone, Copy)]
-pub enum FieldAt {
-    Contents { tag: u8, begin: usize, end: usize },
-    End,
-    Broken,
+pub struct Field<'a> {
+    pub tag: u8,
+    pub contents: &'a [u8],
+    pub end: usize,
 }
 
-// One-byte tag, two-byte length, contents.
-pub fn field_at(s: &[u8], at: usize) -> FieldAt
-    ensures { result ≡ field_at s.now at }
+// The field at a place, none at the end of the input: one-byte tag, two-byte length, contents.
+pub fn field_at(s: &[u8], at: usize) -> Result<Option<Field<'_>>, Refusal>
+    ensures place { place_of result ≡ field_at s.now at }
+    ensures refused { IfErr result (λ e. e ≡ Refusal.BadField) }
 {
     if s.len() <= at {
-        return FieldAt::End;
+        return Ok(None);
     }
     if s.len() - at < 3 {
-        return FieldAt::Broken;
+        return Err(Refusal::BadField);
     }
     let len = numbers::word(s, at + 1) as usize;
     if s.len() - (at + 3) < len {
-        return FieldAt::Broken;
+        return Err(Refusal::BadField);
     }
-    FieldAt::Contents {
+    let end = at + 3 + len;
+    Ok(Some(Field {
         tag: s[at],
-        begin: at + 3,
-        end: at + 3 + len,
-    }
-}
-
-// The number of what stands at a place, where `index` fields stand before it: 0 where the run goes on or ends well.
-pub fn number_at(place: FieldAt, index: u32) -> u32
-    ensures { result ≡ number_at index place }
-{
-    match place {
-        FieldAt::Contents { .. } => 0,
-        FieldAt::End => {
-            if index == 0 {
-                return 18;
-            }
-            0
-        }
-        FieldAt::Broken => 18,
-    }
-}
-
-// The contents of a field, a part of the input.
-pub fn contents(s: &[u8], begin: usize, end: usize) -> &[u8]
-    requires { (begin ≤ end) × (end ≤ length s.now) }
-    ensures { result.now ≡ take (end - begin) (drop begin s.now) }
-{
-    &s[begin..end]
+        contents: &s[at + 3..end],
+        end,
+    }))
 }
 
 // Whether contents of n bytes are of the tag's length; an unknown tag has none.

@@ -1,4 +1,5 @@
 -- `encoder_linear::coefs_fit` meets its contract.
+use borrow.Author.Rules.{rules}
 use mathlib.Core.Path.{◌≡◌, ◌∙◌, ap, refl, sym}
 use mathlib.Core.Bool.{Bool}
 use mathlib.Core.List.{List}
@@ -19,7 +20,7 @@ fits terms i = coef_fits (coef_at terms i)
 
 -- the answer of `coef_fits`
 tested : (c : After-coef_fits) → c.coef_fits.result ≡ (fits c.args.terms.now) c.loop-i.i
-tested c = c.coef_fits.ensures ∙ ap (coef_fits) (to_z-of_z w32 _ (record { sfits = c.k-1.given }))
+tested c = c.coef_fits.ensures ∙ ap (coef_fits) (to_z-of_z w32 _ (search rules))
 
 pub loop-i-init : goal.loop-i-init
 unfolding all_below

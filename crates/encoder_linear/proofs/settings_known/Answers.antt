@@ -1,4 +1,5 @@
 -- `encoder_linear::settings_known` meets its contract.
+use borrow.Author.Rules.{rules}
 use mathlib.Core.Path.{◌≡◌, ◌∙◌, ap, refl, sym}
 use mathlib.Core.Bool.{Bool}
 use mathlib.Core.List.{List}
@@ -19,7 +20,7 @@ known count terms i = setting_known count (setting_at terms i)
 
 -- the answer of `setting_known`
 tested : (c : After-setting_known) → c.setting_known.result ≡ (known c.args.count c.args.terms.now) c.loop-i.i
-tested c = c.setting_known.ensures ∙ ap (setting_known c.args.count) (to_z-of_z w32 _ (record { sfits = c.x-1.given }))
+tested c = c.setting_known.ensures ∙ ap (setting_known c.args.count) (to_z-of_z w32 _ (search rules))
 
 pub loop-i-init : goal.loop-i-init
 unfolding all_below

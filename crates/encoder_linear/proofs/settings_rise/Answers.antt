@@ -1,4 +1,5 @@
 -- `encoder_linear::settings_rise` meets its contract.
+use borrow.Author.Rules.{rules}
 use mathlib.Core.Path.{◌≡◌, refl, sym}
 use mathlib.Core.Bool.{Bool}
 use mathlib.Core.List.{List}
@@ -26,8 +27,8 @@ returns-then-b-a c =
     let terms : List ℤ = c.args.terms.now in
     let i = c.loop-i.i - 1 in
     let next : i + 1 ≡ c.loop-i.i = omega arith in
-    let f : SFits w32 (setting_at terms i) = record { sfits = c.a-1.given } in
-    let g : SFits w32 (setting_at terms (i + 1)) = rw next (record { sfits = c.b-1.given }) in
+    let f : SFits w32 (setting_at terms i) = search rules in
+    let g : SFits w32 (setting_at terms (i + 1)) = rw next (search rules) in
     sym (all_fail (rises terms) (length terms / 2 - 1) i (omega arith) (below_no f g (rw next c.if-b-a.true)))
 
 pub loop-i-preserved : goal.loop-i-preserved
@@ -37,8 +38,8 @@ loop-i-preserved c =
     let i = l.i - 1 in
     let next : i + 1 ≡ l.i = omega arith in
     let last : l.i + 1 - 1 ≡ i + 1 = omega arith in
-    let f : SFits w32 (setting_at terms i) = record { sfits = c.a-1.given } in
-    let g : SFits w32 (setting_at terms (i + 1)) = rw next (record { sfits = c.b-1.given }) in
+    let f : SFits w32 (setting_at terms i) = search rules in
+    let g : SFits w32 (setting_at terms (i + 1)) = rw next (search rules) in
     (omega arith, rw last (all_more (rises terms) i l.invariant.1 (below_yes f g (rw next c.if-b-a.false))))
 
 pub returns : goal.returns

@@ -1,6 +1,6 @@
 -- `job_fields::numbers::terms` meets its contract.
 use Prim.Native.Nat.{◌*◌, ◌+◌, ◌/◌, ◌≤◌}
-use lib.ListN.{length}
+use lib.ListN.{get_or, length}
 use mathlib.Core.Path.{◌≡◌}
 use mir.Syntax.{w32}
 use mir.Val.{SFits}
@@ -18,8 +18,9 @@ loop-i-preserved c =
     let z : SFits w32 c.signed_word-k.result = record { sfits = c.signed_word-k.type_inv } in
     let m : length s / 3 * 2 ≤ length c.args.out.now = omega (arith, c.requires) in
     let e : 2 * (l.i + 1) ≡ 2 * l.i + 1 + 1 = omega arith in
-    let x = to_z_pos w32 c.wide-x.result (omega (arith, c.wide-x.ensures.1)) in
-    (omega arith, rw (e, to_z-of_z w32 c.signed_word-k.result z, c.signed_word-k.ensures, x, c.wide-x.ensures.0) (putting_more (2 * l.i + 1) _ (omega arith) (putting_more (2 * l.i) _ (omega arith) p)))
+    let x = c.from-x.ensures in
+    let n = to_z_pos w32 (get_or s (3 * l.i) 0) (omega (arith, c.type_inv.s (3 * l.i))) in
+    (omega arith, rw (e, to_z-of_z w32 c.signed_word-k.result z, c.signed_word-k.ensures, x, n) (putting_more (2 * l.i + 1) _ (omega arith) (putting_more (2 * l.i) _ (omega arith) p)))
 
 pub returns : goal.returns
 returns c =
