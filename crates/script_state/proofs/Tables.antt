@@ -4,19 +4,21 @@ use native.Mathlib.Omega.{arith}
 use native.Mathlib.Numerals.{add-one}
 use mathlib.Core.Path.{◌≡◌, refl, sym, ap, ◌∙◌}
 use mathlib.Core.Bool.{Bool, true, false}
-use mathlib.Core.List.{List, ◌++◌, append-nil}
-use lib.Dec.{ltb}
+use mathlib.Core.List.{List}
+use lib.Dec.{leb, ltb}
 use lib.IntN.{ℤ}
-use lib.ListN.{length, set, take, drop, replicate, length-set}
-use lib.Seq.{drop-length, take-length, take-suc-set}
-use borrow.Author.Fill.{fill_more}
+use lib.ListN.{length, set, take, length-set}
+use lib.Seq.{take-length, take-suc-set}
 use borrow.Author.Tests.{le-leb, lt-leb, eq-eqb, ne_eqb}
-use Rattle.lines.specs.declared.fitting.Signed.{Signed}
-use Rattle.lines.specs.declared.fitting.Unsigned.{Unsigned}
-use Rattle.lines.specs.Fitting.{signed_at, unsigned_at}
+use Rattle.std.proofs.Common.{Option, is_some, unwrap_or, pos, w32, to_z, of_z}
+use Rattle.std.proofs.lemmas.Int.{to_z-of_z}
+use lib.Signed.{mag}
+use Rattle.std.specs.declared.num.TryFromIntError.{TryFromIntError}
+use Rattle.lines.specs.Fitting.{NumberAt}
+use Rattle.lines.proofs.Typed.{gives_i32, gives_u32, signed_known, unsigned_known}
 use Rattle.encoder_env.specs.declared.EncoderEnv.{EncoderEnv}
 use Rattle.encoder_env.specs.WellFormed.{all_below}
-use Rattle.script_state.specs.Job.{fits, is_job, job_of, lits_from, record_from, records_from, signed_fits, signed_or_0, signed_place, table, unsigned_fits, unsigned_or_0}
+use Rattle.script_state.specs.Job.{fits, is_job, job_of, lits_from, record_from, records_from, signed_or_0, signed_place, table, unsigned_or_0}
 use Rattle.sat.specs.declared.Lit.{Lit}
 use Rattle.log_var.specs.declared.LogEncoding.{LogEncoding}
 
@@ -47,30 +49,20 @@ module _ {A : Type 0} (n : ℕ) (f : ℕ → A) where
       let q : take n xs ≡ table n f = rw e at t.are in
       sym (take-length xs) ∙ (rw t.long q)
 
--- the first k entries of a store are 0, the others as at first
-pub record Clearing (first xs : List ℕ) (k : ℕ) : Type 0 where
-  pub long : length xs ≡ length first
-  pub within : k ≤ length first
-  pub are : xs ≡ replicate k 0 ++ drop k first
+-- The numbers as the code reads them ----------------------------------------------------------------------------------
 
-pub clearing_none : (xs : List ℕ) → Clearing xs xs 0
-clearing_none xs = record { long = refl; within = omega arith; are = refl }
+pub unsigned_read : (nums : List ℤ) (k : ℕ) (r : Option ℕ) {x : ℕ} → NumberAt (gives_u32 TryFromIntError) nums k r → x ≡ unwrap_or r 0 → x ≡ unsigned_or_0 nums k
+unsigned_read nums k r h e = e ∙ ap (λ (o : Option ℕ). unwrap_or o 0) (unsigned_known TryFromIntError nums k r h)
 
-pub clearing_more : {first xs : List ℕ} {k : ℕ} → Clearing first xs k → k < length first → Clearing first (set xs k 0) (k + 1)
-clearing_more {first} {xs} {k} t h = record {
-  long = length-set xs k 0 ∙ t.long;
-  within = omega arith;
-  are = ap (λ (l : List ℕ). set l k 0) t.are ∙ fill_more k 0 first h;
-}
-
-pub clearing_end : {first xs : List ℕ} {k : ℕ} → Clearing first xs k → length first ≤ k → xs ≡ replicate (length first) 0
-clearing_end {first} {xs} {k} t h =
-    let e : k ≡ length first = omega (arith, t.within) in
-    t.are ∙ (rw (e, drop-length first) (append-nil (replicate (length first) 0)))
+-- and as it goes into a record
+pub signed_read : (nums : List ℤ) (k : ℕ) (r : Option ℤ) {x : ℤ} → NumberAt (gives_i32 TryFromIntError) nums k r → x ≡ unwrap_or r (pos 0) → mag x < 2147483648
+    → to_z w32 (of_z w32 x) ≡ signed_or_0 nums k
+signed_read nums k r {x} h e small =
+    to_z-of_z w32 x (record { sfits = small }) ∙ e ∙ ap (λ (o : Option ℤ). unwrap_or o (pos 0)) (signed_known TryFromIntError nums k r h)
 
 -- The places of a job's numbers ------------------------------------------------------------------------------------------
 
-pub place_count : (k : ℕ) → k < 5 → false ≡ signed_place k
+pub place_count : (k : ℕ) → k < 5 → leb 5 k ≡ signed_place k
 unfolding signed_place
 place_count k h = rw (lt-leb 5 k h)
 
@@ -78,13 +70,13 @@ pub place_record : (k : ℕ) → 5 ≤ k → ltb 12 ((k - 5) % 16) ≡ signed_pl
 unfolding signed_place
 place_record k h = rw (le-leb 5 k h)
 
-pub fits_signed : (nums : List ℤ) (k : ℕ) {r : Signed} → signed_place k ≡ true → signed_at nums k ≡ r → signed_fits r ≡ fits nums k
+pub fits_signed : (nums : List ℤ) (k : ℕ) (r : Option ℤ) → signed_place k ≡ true → NumberAt (gives_i32 TryFromIntError) nums k r → is_some r ≡ fits nums k
 unfolding fits
-fits_signed nums k e q = sym (rw e (ap signed_fits q))
+fits_signed nums k r e q = rw e (ap is_some (signed_known TryFromIntError nums k r q))
 
-pub fits_unsigned : (nums : List ℤ) (k : ℕ) {r : Unsigned} → signed_place k ≡ false → unsigned_at nums k ≡ r → unsigned_fits r ≡ fits nums k
+pub fits_unsigned : (nums : List ℤ) (k : ℕ) (r : Option ℕ) → signed_place k ≡ false → NumberAt (gives_u32 TryFromIntError) nums k r → is_some r ≡ fits nums k
 unfolding fits
-fits_unsigned nums k e q = sym (rw e (ap unsigned_fits q))
+fits_unsigned nums k r e q = rw e (ap is_some (unsigned_known TryFromIntError nums k r q))
 
 pub job_short : (nums : List ℤ) → (length nums ≡ 517 → ⊥) → false ≡ is_job nums
 unfolding is_job

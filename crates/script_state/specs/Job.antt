@@ -1,10 +1,6 @@
 -- The job that the integers of a line say: counts of switches, variables, clauses, literals and settings, then 32 records, each of 12
 -- literals, length, low, high and offset.
-use Rattle.std.specs.Prelude.{ℕ, zero, suc, ◌+◌, ◌-◌, ◌*◌, ◌%◌, Bool, true, false, ◌&&◌, cond, List, [], ◌∷◌, ◌++◌, leb, ltb, eqb, ℤ, pos, length}
-use Rattle.lines.specs.declared.fitting.Signed.{Signed}
-use Rattle.lines.specs.declared.fitting.Signed.TheVariants as i
-use Rattle.lines.specs.declared.fitting.Unsigned.{Unsigned}
-use Rattle.lines.specs.declared.fitting.Unsigned.TheVariants as u
+use Rattle.std.specs.Prelude.{ℕ, zero, suc, ◌+◌, ◌-◌, ◌*◌, ◌%◌, Bool, ◌&&◌, cond, List, [], ◌∷◌, ◌++◌, leb, ltb, eqb, ℤ, pos, length, is_some, unwrap_or}
 use Rattle.lines.specs.Fitting.{signed_at, unsigned_at}
 use Rattle.sat.specs.declared.Lit.{Lit}
 use Rattle.log_var.specs.declared.LogEncoding.{LogEncoding}
@@ -12,35 +8,19 @@ use Rattle.encoder_env.specs.declared.EncoderEnv.{EncoderEnv}
 use Rattle.encoder_env.specs.WellFormed.{all_below}
 
 -- a number that fits, or 0
-abbrev pub unsigned_value : Unsigned → ℕ
-unsigned_value (u.Value x) = x
-unsigned_value u.Outside = 0
-
-abbrev pub signed_value : Signed → ℤ
-signed_value (i.Value z) = z
-signed_value i.Outside = pos 0
-
 abbrev pub unsigned_or_0 : List ℤ → ℕ → ℕ
-unsigned_or_0 nums k = unsigned_value (unsigned_at nums k)
+unsigned_or_0 nums k = unwrap_or (unsigned_at nums k) 0
 
 abbrev pub signed_or_0 : List ℤ → ℕ → ℤ
-signed_or_0 nums k = signed_value (signed_at nums k)
+signed_or_0 nums k = unwrap_or (signed_at nums k) (pos 0)
 
 -- number k is one of low, high and offset
 unfoldable pub signed_place : ℕ → Bool
 signed_place k = leb 5 k && ltb 12 ((k - 5) % 16)
 
-abbrev pub unsigned_fits : Unsigned → Bool
-unsigned_fits (u.Value x) = true
-unsigned_fits u.Outside = false
-
-abbrev pub signed_fits : Signed → Bool
-signed_fits (i.Value z) = true
-signed_fits i.Outside = false
-
 -- number k fits the type of its place: i32 for low, high and offset, u32 for all others
 unfoldable pub fits : List ℤ → ℕ → Bool
-fits nums k = cond (signed_place k) (signed_fits (signed_at nums k)) (unsigned_fits (unsigned_at nums k))
+fits nums k = cond (signed_place k) (is_some (signed_at nums k)) (is_some (unsigned_at nums k))
 
 unfoldable pub is_job : List ℤ → Bool
 is_job nums = eqb (length nums) 517 && all_below 517 (fits nums)

@@ -3,41 +3,18 @@
 #![tactic(auto)]
 
 ghost use Rattle.std.specs.Prelude.{◌≡◌, ◌<◌, length, replicate};
-ghost use Rattle.script_state.specs.Job.{fits, is_job, job_of, lits_from, record_from, records_from, signed_or_0, signed_place, unsigned_or_0};
+ghost use Rattle.script_state.specs.Job.{fits, is_job, job_of, lits_from, record_from, records_from, signed_place};
 
 use encoder_env::EncoderEnv;
-use lines::{Signed, Unsigned};
+use lines::number_at;
 use log_var::LogEncoding;
 use sat::Lit;
-
-// Number i, or 0 where it does not fit a u32.
-fn unsigned_or_0(nums: &[i64], i: usize) -> u32
-    ensures { result ≡ unsigned_or_0 nums.now i }
-{
-    let Unsigned::Value(x) = lines::unsigned_at(nums, i) else {
-        return 0;
-    };
-    x
-}
-
-// Number i, or 0 where it does not fit an i32.
-fn signed_or_0(nums: &[i64], i: usize) -> i32
-    ensures { result ≡ signed_or_0 nums.now i }
-{
-    let Signed::Value(x) = lines::signed_at(nums, i) else {
-        return 0;
-    };
-    x
-}
 
 // Whether number i is one of low, high and offset.
 fn is_signed_place(i: usize) -> bool
     ensures { result ≡ signed_place i }
 {
-    if i < 5 {
-        return false;
-    }
-    (i - 5) % 16 > 12
+    i >= 5 && (i - 5) % 16 > 12
 }
 
 // Whether number i fits the type of its place.
@@ -45,15 +22,10 @@ fn fits(nums: &[i64], i: usize) -> bool
     ensures { result ≡ fits nums.now i }
 {
     if is_signed_place(i) {
-        let Signed::Value(x) = lines::signed_at(nums, i) else {
-            return false;
-        };
-        return true;
+        number_at::<i32>(nums, i).is_some()
+    } else {
+        number_at::<u32>(nums, i).is_some()
     }
-    let Unsigned::Value(x) = lines::unsigned_at(nums, i) else {
-        return false;
-    };
-    true
 }
 
 // Whether the integers say a job.
@@ -63,27 +35,23 @@ pub fn is_job(nums: &[i64]) -> bool
     if nums.len() != 517 {
         return false;
     }
-    let mut i: usize = 0;
-    while i < 517 {
+    for i in 0..517 {
         if !fits(nums, i) {
             return false;
         }
-        i += 1;
     }
     true
 }
 
-// The 12 literals that start at `at`.
+// The 12 literals that start at `at`. A number that does not fit is 0, here and below.
+// `array::from_fn` was tried: its clause does not say that the closure keeps what it captured, and the proof did not close.
 fn lits_at(nums: &[i64], at: usize) -> [Lit; 12]
     requires { at < 1000 }
     ensures { result ≡ lits_from nums.now at }
 {
     let mut lits = [Lit(0); 12];
-    let mut i: usize = 0;
-    while i < 12 {
-        let l = Lit(unsigned_or_0(nums, at + i));
-        lits[i] = l;
-        i += 1;
+    for i in 0..12 {
+        lits[i] = Lit(number_at(nums, at + i).unwrap_or(0));
     }
     lits
 }
@@ -93,13 +61,12 @@ fn record_at(nums: &[i64], at: usize) -> LogEncoding
     requires { at < 1000 }
     ensures { result ≡ record_from nums.now at }
 {
-    let lits = lits_at(nums, at);
     LogEncoding {
-        lits,
-        len: unsigned_or_0(nums, at + 12),
-        low: signed_or_0(nums, at + 13),
-        high: signed_or_0(nums, at + 14),
-        offset: signed_or_0(nums, at + 15),
+        lits: lits_at(nums, at),
+        len: number_at(nums, at + 12).unwrap_or(0),
+        low: number_at(nums, at + 13).unwrap_or(0),
+        high: number_at(nums, at + 14).unwrap_or(0),
+        offset: number_at(nums, at + 15).unwrap_or(0),
     }
 }
 
@@ -107,19 +74,9 @@ fn record_at(nums: &[i64], at: usize) -> LogEncoding
 fn records(nums: &[i64]) -> [LogEncoding; 32]
     ensures { result ≡ records_from nums.now }
 {
-    let none = LogEncoding {
-        lits: [Lit(0); 12],
-        len: 0,
-        low: 0,
-        high: 0,
-        offset: 0,
-    };
-    let mut encodings = [none; 32];
-    let mut i: usize = 0;
-    while i < 32 {
-        let e = record_at(nums, 5 + 16 * i);
-        encodings[i] = e;
-        i += 1;
+    let mut encodings = [record_at(nums, 5); 32];
+    for i in 0..32 {
+        encodings[i] = record_at(nums, 5 + 16 * i);
     }
     encodings
 }
@@ -128,14 +85,13 @@ fn records(nums: &[i64]) -> [LogEncoding; 32]
 pub fn job_of(nums: &[i64]) -> EncoderEnv
     ensures { result ≡ job_of nums.now }
 {
-    let encodings = records(nums);
     EncoderEnv {
-        switches: unsigned_or_0(nums, 0),
-        variables: unsigned_or_0(nums, 1),
-        clauses: unsigned_or_0(nums, 2),
-        literals: unsigned_or_0(nums, 3),
-        count: unsigned_or_0(nums, 4),
-        encodings,
+        switches: number_at(nums, 0).unwrap_or(0),
+        variables: number_at(nums, 1).unwrap_or(0),
+        clauses: number_at(nums, 2).unwrap_or(0),
+        literals: number_at(nums, 3).unwrap_or(0),
+        count: number_at(nums, 4).unwrap_or(0),
+        encodings: records(nums),
     }
 }
 
@@ -143,9 +99,5 @@ pub fn job_of(nums: &[i64]) -> EncoderEnv
 pub fn clear(store: &mut [u32])
     ensures { store.new ≡ replicate (length store.old) 0 }
 {
-    let mut i: usize = 0;
-    while i < store.len() {
-        store[i] = 0;
-        i += 1;
-    }
+    store.fill(0);
 }

@@ -2,8 +2,8 @@
 use Rattle.script_state.proofs.Tables.{place_count, place_record}
 use Rattle.script_state.proofs.is_signed_place.Goals as goal
 
-pub returns-then-i-lt5 : goal.returns-then-i-lt5
-returns-then-i-lt5 c = place_count _ c.if-i-lt5.true
+pub returns-then-i-ge5 : goal.returns-then-i-ge5
+returns-then-i-ge5 c = place_record _ c.if-i-ge5.true
 
-pub returns : goal.returns
-returns c = place_record _ c.if-i-lt5.false
+pub returns-else-i-ge5 : goal.returns-else-i-ge5
+returns-else-i-ge5 c = place_count _ c.if-i-ge5.false

@@ -9,7 +9,7 @@ pub loop-i-init : goal.loop-i-init
 loop-i-init c = filling_none 32 _ _ refl
 
 pub loop-i-preserved : goal.loop-i-preserved
-loop-i-preserved c = let a = c.args in filling_more 32 (λ (k : ℕ). record_from a.nums.now (5 + 16 * k)) _ c.loop-i.invariant c.loop-i-test.true c.record_at-e.ensures
+loop-i-preserved c = let a = c.args in filling_more 32 (λ (k : ℕ). record_from a.nums.now (5 + 16 * k)) _ c.loop-i.invariant c.loop-i-test.true c.record_at.ensures
 
 pub returns : goal.returns
 unfolding records_from
