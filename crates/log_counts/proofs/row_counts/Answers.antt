@@ -13,7 +13,7 @@ loop-i-init c = growing_start _ _ _ (λ hs. rw (sub-zero c.args.x))
 pub push-c-requires : goal.push-c-requires
 push-c-requires c =
     let l = c.loop-i in
-    (omega (arith, c.loop-i-test.true, c.requires), growing_counted l.invariant (record { list = []; holds = rw c.none-c.ensures (none_counted 0 (omega arith)) }) (omega (arith, c.requires.0)))
+    (omega (arith, c.loop-i-test.true, c.requires), growing_counted l.invariant {m = 0} (record { list = []; holds = rw c.none-c.ensures (none_counted 0 (omega arith)) }) (omega (arith, c.requires.0)))
 
 pub loop-i-preserved : goal.loop-i-preserved
 loop-i-preserved c =

@@ -15,10 +15,10 @@ use Rattle.terms_size.proofs.comparison_size.Goals.{After-higher, Start}
 
 -- the columns of either sign
 abbrev positive : Start → List Reached
-positive s = sign_reached false (shapes_of s.args.ts s.args.n) s.args.a
+positive s = sign_reached false (shapes_of s.args.ts.now) s.args.a
 
 abbrev negative : Start → List Reached
-negative s = sign_reached true (shapes_of s.args.ts s.args.n) s.args.b
+negative s = sign_reached true (shapes_of s.args.ts.now) s.args.b
 
 -- the higher part decides
 height-is : (c : After-higher) → c.higher.result ≡ greatest_height (positive c.before.before.before ++ negative c.before.before.before)
@@ -37,6 +37,6 @@ returns c =
     let n = c.sign_columns-m.ensures in
     let x = c.adder_size-positive in
     let y = c.adder_size-negative in
-    comparison_measured (shapes_of c.args.ts c.args.n) c.args.a c.args.b x.result y.result c.compare_size.result
+    comparison_measured (shapes_of c.args.ts.now) c.args.a c.args.b x.result y.result c.compare_size.result
     (subst (λ (rs : List Reached). Counted rs x.result) p.reach x.ensures) (subst (λ (rs : List Reached). Counted rs y.result) n.reach y.ensures)
     c.args.is_ne (omega (arith, height-is (goal.at.returns c).After-higher, c.if-higher-gt12.false)) c.compare_size.ensures

@@ -11,19 +11,19 @@ use Rattle.log_counts.proofs.Reached.{taken}
 use Rattle.terms_size.proofs.Equates.{eq_reaches, equation_measured}
 use Rattle.terms_size.proofs.Measuring.{measured_tall}
 use Rattle.terms_size.proofs.equation_size.Goals as goal
-use Rattle.terms_size.proofs.equation_size.Goals.{After-eq_greatest_height, After-excess-y, Else-eq_greatest_height-gt12}
+use Rattle.terms_size.proofs.equation_size.Goals.{After-eq_greatest_height, After-saturating_sub-y, Else-eq_greatest_height-gt12}
 
 -- the columns reached
-reaches : (c : After-excess-y) → let k = c.eq_counts-c.result in
-    eq_reached (take k.width k.counts) c.excess-x.result c.excess-y.result 0 ≡ linear_reached eq (shapes_of c.args.ts c.args.n) c.args.a c.args.b
+reaches : (c : After-saturating_sub-y) → let k = c.eq_counts-c.result in
+    eq_reached (take k.width k.counts) c.saturating_sub-x.result c.saturating_sub-y.result 0 ≡ linear_reached eq (shapes_of c.args.ts.now) c.args.a c.args.b
 reaches c =
-    eq_reaches (shapes_of c.args.ts c.args.n) c.args.a c.args.b _ c.excess-x.result c.excess-y.result _
-    (taken c.eq_counts-c.ensures) (ap (λ (n : ℕ). c.args.b + n) c.negated_bits.ensures.0) c.excess-x.ensures c.excess-y.ensures
+    eq_reaches (shapes_of c.args.ts.now) c.args.a c.args.b _ c.saturating_sub-x.result c.saturating_sub-y.result _
+    (taken c.eq_counts-c.ensures) (ap (λ (n : ℕ). c.args.b + n) c.negated_bits.ensures.0) c.saturating_sub-x.ensures c.saturating_sub-y.ensures
 
-height-is : (c : After-eq_greatest_height) → c.eq_greatest_height.result ≡ greatest_height (linear_reached eq (shapes_of c.args.ts c.args.n) c.args.a c.args.b)
+height-is : (c : After-eq_greatest_height) → c.eq_greatest_height.result ≡ greatest_height (linear_reached eq (shapes_of c.args.ts.now) c.args.a c.args.b)
 height-is c = c.eq_greatest_height.ensures ∙ ap greatest_height (reaches c.before)
 
-low-height : (c : Else-eq_greatest_height-gt12) → greatest_height (linear_reached eq (shapes_of c.args.ts c.args.n) c.args.a c.args.b) ≤ 12
+low-height : (c : Else-eq_greatest_height-gt12) → greatest_height (linear_reached eq (shapes_of c.args.ts.now) c.args.a c.args.b) ≤ 12
 low-height c = omega (arith, height-is c.before, c.if-eq_greatest_height-gt12.false)
 
 pub returns-then-eq_greatest_height-gt12 : goal.returns-then-eq_greatest_height-gt12
@@ -32,6 +32,6 @@ returns-then-eq_greatest_height-gt12 c =
 
 pub returns : goal.returns
 returns c =
-    equation_measured (shapes_of c.args.ts c.args.n) c.args.a c.args.b _ c.excess-x.result c.excess-y.result _
-    (taken c.eq_counts-c.ensures) (ap (λ (n : ℕ). c.args.b + n) c.negated_bits.ensures.0) c.excess-x.ensures c.excess-y.ensures
+    equation_measured (shapes_of c.args.ts.now) c.args.a c.args.b _ c.saturating_sub-x.result c.saturating_sub-y.result _
+    (taken c.eq_counts-c.ensures) (ap (λ (n : ℕ). c.args.b + n) c.negated_bits.ensures.0) c.saturating_sub-x.ensures c.saturating_sub-y.ensures
     c.eq_size.result (low-height (goal.at.returns c).Else-eq_greatest_height-gt12) c.eq_size.ensures

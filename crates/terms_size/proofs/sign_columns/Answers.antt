@@ -8,4 +8,4 @@ pub returns : goal.returns
 returns c =
     let w = c.adder_width-width in
     let r = constant_reached c.sign_counts-c.ensures c.args.constant w.result c.requires.constant_bound w.ensures.0 in
-    record { reach = r; narrow = w.ensures.1; height_is = c.greatest_height.ensures ∙ ap greatest_height r }
+    record { long = c.sign_counts-c.ensures.long; reach = r; narrow = w.ensures.1; height_is = c.greatest_height.ensures ∙ ap greatest_height r }
