@@ -13,8 +13,8 @@ use Rattle.encoder_env.specs.declared.EncoderEnv.{EncoderEnv}
 use Rattle.encoder_env.proofs.Bounds.{and_is, leb_is}
 use Rattle.encoder_answer.specs.Accepted.{HasSpace}
 use Rattle.encoder_answer.specs.Adding.{added, adding, adding_status, space_for}
-use Rattle.encoder_answer.specs.Outcome.{Check, Outcome, settled, status_of}
-use Rattle.encoder_answer.proofs.Statuses.{Numbered, both_lists, passed, settled_accepted, settled_known, then_rest}
+use Rattle.encoder_answer.specs.Outcome.{Check, Numbered, Outcome, settled, status_of}
+use Rattle.encoder_answer.proofs.Statuses.{both_lists, passed, settled_accepted, settled_known, then_rest}
 
 -- a check, and those after it
 pub check_is : (b : Bool) (rest n : ℕ) {P Q : Type 0} → (b ≡ true) ↔ P → (rest ≡ 0) ↔ Q → (cond b rest (suc n) ≡ 0) ↔ (P × Q)

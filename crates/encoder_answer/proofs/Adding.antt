@@ -25,8 +25,8 @@ use Rattle.encoder_env.proofs.Records.{lits_known, records_more}
 use Rattle.encoder_env.proofs.Tests.{both}
 use Rattle.encoder_answer.specs.Adding.{added, adding, adding_status, grown}
 use Rattle.encoder_answer.specs.Encoded.{RuleExact, added_clauses, number}
-use Rattle.encoder_answer.specs.Outcome.{Check, Outcome, status_of}
-use Rattle.encoder_answer.proofs.Statuses.{Numbered, both_lists, passed, settled_accepted, settled_known}
+use Rattle.encoder_answer.specs.Outcome.{Check, Numbered, Outcome, status_of}
+use Rattle.encoder_answer.proofs.Statuses.{both_lists, passed, settled_accepted, settled_known}
 
 module _ (checks : List Check) (env : EncoderEnv) (lits ends : List ℕ) (clauses : Clauses) (job : EncoderEnv) where
   abbrev outcome : Outcome

@@ -1,114 +1,117 @@
--- What a call that adds answers, from what its parts answer: the checks, the counting, the checks of space, the writing.
-use mathlib.Core.Path.{◌≡◌, ◌∙◌, ap, sym}
-use mathlib.Core.List.{List}
-use Prim.Native.Nat.{◌+◌, ◌<◌, ◌^◌, ℕ}
-use lib.IntN.{pos}
+-- What a call that adds answers, from what its parts answer: its checks, the counting with nothing lent, the checks of space, the writing.
+use mathlib.Core.Path.{◌≡◌, ◌∙◌, ap, refl, sym}
+use mathlib.Core.List.{List, []}
+use Prim.Native.Nat.{◌+◌, ℕ}
 use lib.ListN.{length}
 use native.Mathlib.Omega.{arith}
+use Rattle.std.specs.Prelude.{Option, None, Some, Result, Ok, Err}
 use Rattle.sat.specs.Clause.{Clauses}
-use Rattle.sat.specs.Encoded.{EncodedRule}
 use Rattle.sat.specs.Size.{entries}
 use Rattle.clause_set.specs.declared.Counts.{Counts}
-use Rattle.clause_set.specs.Stores.{Stores, add_clauses, after}
+use Rattle.clause_set.specs.Stores.{Stores, add_clauses, after, stores}
 use Rattle.clause_set.proofs.Adding.{count_after, used_after}
+use Rattle.sat.specs.Encoded.{EncodedRule}
 use Rattle.log_linear.specs.Added.{RuleOutcome, add_rule, rule_outcome}
 use Rattle.log_linear.specs.declared.RuleCounts.{RuleCounts}
+use Rattle.log_var.specs.declared.LogEncoding.{LogEncoding}
+use Rattle.refusal.specs.Number.{number}
+use Rattle.refusal.specs.declared.Refusal.{Refusal}
 use Rattle.encoder_env.specs.declared.EncoderEnv.{EncoderEnv}
-use Rattle.encoder_env.proofs.Kept.{Kept}
-use Rattle.encoder_answer.specs.declared.Answer.{Answer}
-use Rattle.encoder_answer.specs.Adding.{adding, adding_status, counts_of, grown, job_with, space_checks, space_for}
-use Rattle.encoder_answer.specs.Outcome.{Answers, Check, Outcome, status_of}
-use Rattle.encoder_answer.specs.Sizes.{CountsAfter, RuleSize}
+use Rattle.encoder_env.proofs.Kept.{kept}
+use Rattle.encoder_answer.specs.declared.Written.{Written}
+use Rattle.encoder_answer.specs.Adding.{adding_status, counts_of, grown, job_with, space_checks, space_for}
+use Rattle.encoder_answer.specs.Call.{Addition, Fits, JobAddition, JobChecks, Settles, CallWrote, call_outcome, job_added, job_after, rule, with_setting}
+use Rattle.encoder_answer.specs.Outcome.{Answers, Check, adds, status_of}
 use Rattle.encoder_answer.proofs.Adding.{accepted}
-use Rattle.encoder_answer.proofs.Statuses.{Numbered, accepts, both_lists, refuses, stops, then_rest}
+use Rattle.encoder_answer.proofs.Statuses.{accepts, refuses, stops, then_rest, number_some}
 
 -- the counts after clauses that were added
-pub counted : (clauses : Clauses) (at : Counts) (d e : List ℕ) {used : Counts} {d₁ e₁ : List ℕ} → after d₁ e₁ used ≡ add_clauses 0 clauses (after d e at)
-    → (used.lits ≡ at.lits + entries clauses) × (used.clauses ≡ at.clauses + length clauses)
-counted clauses at d e w = (
-  ap (λ (s : Stores). s.used) w ∙ used_after 0 clauses (after d e at),
-  ap (λ (s : Stores). s.count) w ∙ count_after 0 clauses (after d e at),
+counted : (clauses : Clauses) (s : Stores) {used : Counts} {d e : List ℕ} → after d e used ≡ add_clauses 0 clauses s
+    → (used.lits ≡ s.used + entries clauses) × (used.clauses ≡ s.count + length clauses)
+counted clauses s w = (
+  ap (λ (x : Stores). x.used) w ∙ used_after 0 clauses s,
+  ap (λ (x : Stores). x.count) w ∙ count_after 0 clauses s,
 )
 
--- A call that adds, on stores of these lengths: its checks but those of space, its clauses and the job after it.
-pub record AddingCall (env : EncoderEnv) (lits ends : ℕ) : Type 0 where
-  pub checks : List Check
-  pub numbered : Numbered checks
-  pub holds : status_of checks ≡ 0 → Kept env lits ends
-  pub clauses : Clauses
-  pub job : EncoderEnv
+-- a record leaves the variable count
+same_variables : (r : Option LogEncoding) (env : EncoderEnv) → (with_setting r env).variables ≡ env.variables
+same_variables None env = refl
+same_variables (Some e) env = refl
 
--- The number of all checks -------------------------------------------------------------------------------------------
+module _ (asks : JobChecks) (gives : JobAddition) (env : EncoderEnv) (lits ends : List ℕ)
+    (t : Settles env (length lits) (length ends) (asks env (length lits) (length ends)) (gives env)) where
+  abbrev a : Addition
+  a = gives env
 
-abbrev pub call_status : {env : EncoderEnv} {lits ends : ℕ} → AddingCall env lits ends → ℕ
-call_status {env} {lits} {ends} d = adding_status d.checks env lits ends d.job.variables d.clauses
+  abbrev checks : List Check
+  checks = asks env (length lits) (length ends)
 
-module _ {env : EncoderEnv} {lits ends : ℕ} (d : AddingCall env lits ends) {r : ℕ} where
-  pub all_passed : r ≡ call_status d → r ≡ 0 → status_of d.checks ≡ 0
-  all_passed s z = (both_lists d.checks (space_for env lits ends d.job.variables d.clauses) d.numbered (sym s ∙ z)).0
+  abbrev job : EncoderEnv
+  job = job_added env a
 
-  -- from that of the checks but for space: one of them fails
-  pub refused_before : r ≡ status_of d.checks → (r ≡ 0 → ⊥) → r ≡ call_status d
-  refused_before s h = s ∙ sym (stops d.checks _ (λ z. h (s ∙ z)))
+  abbrev all : ℕ
+  all = adding_status checks env (length lits) (length ends) job.variables a.clauses
 
-  -- all of them hold: it is that of space, on the counts after the call
-  pub space_settles : r ≡ status_of d.checks → r ≡ 0 → {at : Counts} → at ≡ counts_of env
-      → {vars : ℕ} {used : Counts} → CountsAfter d.job.variables d.clauses at vars used
-      → {t : ℕ} → t ≡ status_of (space_checks vars used.lits used.clauses lits ends) → t ≡ call_status d
-  space_settles s z k m u = rw (m.vars_are, m.lits_are, m.clauses_are, k) at u ∙ sym (then_rest d.checks _ d.numbered (sym s ∙ z))
+  abbrev Answered : Result EncoderEnv Refusal → List ℕ → List ℕ → Type 0
+  Answered r = Answers (call_outcome asks gives env lits ends) (adds env r)
 
--- The answer ---------------------------------------------------------------------------------------------------------
+  -- the counts are those of the job after the call
+  sized : (d e : List ℕ) {new : Written} {d₁ e₁ : List ℕ} → CallWrote env a d e new d₁ e₁ → job_with env new.vars new.used ≡ grown env a.vars a.clauses
+  sized d e w = let n = counted a.clauses (stores d e env.literals env.clauses) w.clauses in rw (w.vars, n.0, n.1)
 
-module _ {env : EncoderEnv} (lits ends : List ℕ) (d : AddingCall env (length lits) (length ends)) {r : ℕ} (s : r ≡ call_status d) where
-  abbrev outcome : Outcome
-  outcome = adding d.checks env lits ends d.clauses d.job
+  -- its own checks refuse it
+  pub refused_before : (x : Refusal) → number x ≡ status_of checks → {r : Result EncoderEnv Refusal} → r ≡ Err x → Answered r lits ends
+  refused_before x h =
+      let some = number_some x in
+      refuses all env lits ends _ x (h ∙ sym (stops checks (space_for env (length lits) (length ends) job.variables a.clauses) (λ z. omega arith)))
 
-  pub call_refused : (r ≡ 0 → ⊥) → {a : Answer} → a ≡ record { status = r; env = env; value = pos 0 } → Answers outcome a lits ends
-  call_refused h e = refuses r _ s env lits ends _ _ h e
+  module _ (z : 0 ≡ status_of checks) (size : Written) {d₁ e₁ : List ℕ} (w : CallWrote env a [] [] size d₁ e₁) where
+    -- the number of all checks is that of space
+    of_space : status_of (space_checks size.vars size.used.lits size.used.clauses (length lits) (length ends)) ≡ all
+    of_space =
+        let n = counted a.clauses (stores [] [] env.literals env.clauses) w.clauses in
+        rw (w.vars, n.0, n.1, same_variables a.setting (grown env a.vars a.clauses))
+        (sym (then_rest checks (space_for env (length lits) (length ends) a.vars a.clauses) t.numbered (sym z)))
 
-  -- the clauses were written
-  module _ (z : r ≡ 0) {at : Counts} (k : at ≡ counts_of env) {lits₁ ends₁ : List ℕ} {used : Counts}
-      (w : after lits₁ ends₁ used ≡ add_clauses 0 d.clauses (after lits ends at)) where
-    pub call_accepted : {a : Answer} → a ≡ record { status = 0; env = d.job; value = pos 0 } → Answers outcome a lits₁ ends₁
-    call_accepted e =
-        let written = w ∙ ap (λ (c : Counts). add_clauses 0 d.clauses (after lits ends c)) k in
-        accepts r _ s env lits ends _ _ lits₁ ends₁ z
-        (record {
-          status = ap (λ (x : Answer). x.status) e;
-          env = ap (λ (x : Answer). x.env) e;
-          value = ap (λ (x : Answer). x.value) e;
-          lits = ap (λ (x : Stores). x.lits) written;
-          ends = ap (λ (x : Stores). x.ends) written;
-        })
+    -- there is no space
+    pub no_space : (x : Refusal) → number x ≡ status_of (space_checks size.vars size.used.lits size.used.clauses (length lits) (length ends))
+        → {r : Result EncoderEnv Refusal} → r ≡ Err x → Answered r lits ends
+    no_space x h = refuses all env lits ends _ x (h ∙ of_space)
 
-    -- the counts are numbers of a u32
-    pub counts_fit : (used.clauses < 2 ^ 32) × (used.lits < 2 ^ 32)
-    counts_fit =
-        let a = accepted d.checks env lits ends d.clauses d.job d.numbered (sym s ∙ z) in
-        let h = d.holds a.passed_all in
-        let m = rw k at (counted d.clauses at lits ends w) in
-        (omega (arith, m.1, a.ends_fit, h.ends_max), omega (arith, m.0, a.lits_fit, h.lits_max))
+    -- it was written
+    module _ (s : 0 ≡ status_of (space_checks size.vars size.used.lits size.used.clauses (length lits) (length ends)))
+        (new : Written) {lits₁ ends₁ : List ℕ} (wrote : CallWrote env a lits ends new lits₁ ends₁) where
+      pub fits : Fits env new
+      fits =
+          let c = accepted checks env lits ends a.clauses job t.numbered (sym (s ∙ of_space)) in
+          let h = kept env (length lits) (length ends) (t.formed (sym z)) in
+          let m = counted a.clauses (stores lits ends env.literals env.clauses) wrote.clauses in
+          record {
+            clauses = omega (arith, m.1, c.ends_fit, h.ends_max);
+            lits = omega (arith, m.0, c.lits_fit, h.lits_max);
+            free = λ e p. t.free (sym z) e (sym wrote.setting ∙ p);
+          }
 
--- A rule -------------------------------------------------------------------------------------------------------------
+      pub answered : (j : EncoderEnv) → j ≡ job_after env new → Answered (Ok j) lits₁ ends₁
+      answered j is_job =
+          let same : job_after env new ≡ job = ap (λ (r : Option LogEncoding). with_setting r (job_with env new.vars new.used)) wrote.setting ∙ ap (with_setting a.setting) (sized lits ends wrote) in
+          accepts all env lits ends _ _ lits₁ ends₁ (s ∙ of_space)
+          (record {
+            status = refl;
+            env = is_job ∙ same;
+            value = refl;
+            lits = ap (λ (x : Stores). x.lits) wrote.clauses;
+            ends = ap (λ (x : Stores). x.ends) wrote.clauses;
+          })
 
--- the counts after a rule that was added
-pub rule_sized : (out : EncodedRule) (at : Counts) (d e : List ℕ) {d₁ e₁ : List ℕ} (r : RuleCounts)
-    → rule_outcome d₁ e₁ r ≡ add_rule out (after d e at) → RuleSize out at r
-rule_sized out at d e r w =
-    let n = counted out.clauses at d e (ap (λ (o : RuleOutcome). o.stores) w) in
-    record { vars_are = ap (λ (o : RuleOutcome). o.vars) w; lits_are = n.0; clauses_are = n.1 }
-
--- the call's rule was written
-module _ {env : EncoderEnv} (lits ends : List ℕ) (d : AddingCall env (length lits) (length ends)) (g : d.job ≡ grown env d.job.variables d.clauses)
-    {r : ℕ} (s : r ≡ call_status d) (z : r ≡ 0) {at : Counts} (k : at ≡ counts_of env) {lits₁ ends₁ : List ℕ} {new : RuleCounts}
-    (w : rule_outcome lits₁ ends₁ new ≡ add_rule (record { clauses = d.clauses; vars = d.job.variables }) (after lits ends at)) where
-  -- what `rule_accepted` asks
-  pub rule_fits : (new.used.clauses < 2 ^ 32) × (new.used.lits < 2 ^ 32)
-  rule_fits = counts_fit lits ends d s z k (ap (λ (o : RuleOutcome). o.stores) w)
-
-  pub rule_added : {a : Answer} → a ≡ record { status = 0; env = job_with env new.vars new.used; value = pos 0 }
-      → Answers (adding d.checks env lits ends d.clauses d.job) a lits₁ ends₁
-  rule_added e =
-      let n = rw k at (rule_sized (record { clauses = d.clauses; vars = d.job.variables }) at lits ends new w) in
-      let same : job_with env new.vars new.used ≡ d.job = rw (n.vars_are, n.lits_are, n.clauses_are) (sym g) in
-      call_accepted lits ends d s z k (ap (λ (o : RuleOutcome). o.stores) w) (e ∙ ap (λ (j : EncoderEnv). record { status = 0; env = j; value = pos 0 }) same)
+-- a rule that was written, by its own clause
+pub rule_wrote : (env : EncoderEnv) (out : EncodedRule) (lits ends : List ℕ) {at : Counts} → at ≡ counts_of env → {lits₁ ends₁ : List ℕ} {new : RuleCounts}
+    → rule_outcome lits₁ ends₁ new ≡ add_rule out (after lits ends at) → {w : Written} → w ≡ record { vars = new.vars; used = new.used; setting = None }
+    → CallWrote env (rule out) lits ends w lits₁ ends₁
+rule_wrote env out lits ends k w e =
+    rw e
+    (record {
+      clauses = ap (λ (o : RuleOutcome). o.stores) w ∙ ap (λ (c : Counts). add_clauses 0 out.clauses (after lits ends c)) k;
+      vars = ap (λ (o : RuleOutcome). o.vars) w;
+      setting = refl;
+    })

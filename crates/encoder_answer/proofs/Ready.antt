@@ -1,7 +1,7 @@
--- What the leaf functions of a rule ask of a setting's record.
+-- What the leaf functions of a rule ask of a setting's record and of the counts.
 use mathlib.Core.Path.{◌≡◌, ap, refl}
 use mathlib.Core.Bool.{Bool, ◌&&◌, cond, false, true}
-use Prim.Native.Nat.{◌<◌, ℕ}
+use Prim.Native.Nat.{◌<◌, ◌≤◌, ℕ}
 use native.Mathlib.Omega.{arith}
 use lib.Dec.{eqb, ltb}
 use lib.IntN.{pos}
@@ -43,3 +43,7 @@ setting_ready env lits ends k i h = go (ltb i env.count) refl (all_at (record_ho
           small = λ j l. omega (arith, lit_known env lits ends i k in_count j l, k.variables_max);
         }
     go false u s = spare s
+
+-- the counts of a well-formed job are within what they ask
+pub counts_ready : (env : EncoderEnv) (lits ends : ℕ) → Kept env lits ends → (env.variables ≤ 65535) × (env.literals ≤ 16777216) × (env.clauses ≤ 16777216)
+counts_ready env lits ends k = (k.variables_max, omega (arith, k.literals_in, k.lits_max), omega (arith, k.clauses_in, k.ends_max))

@@ -3,19 +3,45 @@ use mathlib.Core.Path.{◌≡◌, ◌∙◌, ap, refl, sym}
 use mathlib.Core.Bool.{Bool, cond, false, true}
 use mathlib.Core.List.{List, [], ◌++◌, ◌∷◌}
 use Prim.Native.Nat.{◌<◌, suc, ℕ}
-use lib.Dec.{eqb}
-use lib.IntN.{pos}
-use lib.ListN.{drop}
+use Rattle.std.specs.Prelude.{Result, Err}
+use lib.Dec.{eqb, lit<}
+use lib.IntN.{ℤ}
 use native.Mathlib.Omega.{arith}
 use borrow.Author.Tests.{eqb-false, eqb-true, ne_eqb}
 use Rattle.encoder_env.specs.declared.EncoderEnv.{EncoderEnv}
-use Rattle.encoder_answer.specs.declared.Answer.{Answer}
-use Rattle.encoder_answer.specs.Outcome.{Answers, Check, Outcome, refused, settled, status_of}
+use Rattle.refusal.specs.Number.{number}
+use Rattle.refusal.specs.declared.Refusal.{Refusal}
+use Rattle.refusal.specs.declared.Refusal.TheVariants.{IllFormed, TooManySwitches, OutOfBounds, BadList, NotRising, UnknownSwitch, TableFull, UnknownSetting, BadTerms, BadCoefficient, BadConstant, UnknownOperation, ColumnTooTall, TooManyVariables, NoSpace, NoAssignment, UnknownClause, BadField, NotWhole, NotGivenOnce, Unsatisfied}
+use Rattle.encoder_answer.specs.Outcome.{Answer, Answers, Check, Numbered, Outcome, adds, reads, refused, settled, status_of}
 
 -- no refusal: this check holds, and those after it
 pub passed : (b : Bool) (rest n : ℕ) → cond b rest (suc n) ≡ 0 → (b ≡ true) × (rest ≡ 0)
 passed true rest n h = (refl, h)
 passed false rest n h = absurd (omega arith)
+
+-- the number of a refusal is not 0
+pub number_some : (e : Refusal) → 0 < number e
+number_some IllFormed = lit< tt
+number_some TooManySwitches = lit< tt
+number_some OutOfBounds = lit< tt
+number_some BadList = lit< tt
+number_some NotRising = lit< tt
+number_some UnknownSwitch = lit< tt
+number_some TableFull = lit< tt
+number_some UnknownSetting = lit< tt
+number_some BadTerms = lit< tt
+number_some BadCoefficient = lit< tt
+number_some BadConstant = lit< tt
+number_some UnknownOperation = lit< tt
+number_some ColumnTooTall = lit< tt
+number_some TooManyVariables = lit< tt
+number_some NoSpace = lit< tt
+number_some NoAssignment = lit< tt
+number_some UnknownClause = lit< tt
+number_some BadField = lit< tt
+number_some NotWhole = lit< tt
+number_some NotGivenOnce = lit< tt
+number_some Unsatisfied = lit< tt
 
 module _ (r status : ℕ) (s : r ≡ status) (env : EncoderEnv) (lits ends : List ℕ) (ok : Outcome) where
   pub settled_refused : (r ≡ 0 → ⊥) → settled status env lits ends ok ≡ refused r env lits ends
@@ -24,24 +50,22 @@ module _ (r status : ℕ) (s : r ≡ status) (env : EncoderEnv) (lits ends : Lis
   pub settled_accepted : r ≡ 0 → settled status env lits ends ok ≡ ok
   settled_accepted h = rw (← s, h)
 
-  -- a refusal
-  pub refuses : (a : Answer) → (r ≡ 0 → ⊥) → a ≡ record { status = r; env = env; value = pos 0 } → Answers (settled status env lits ends ok) a lits ends
-  refuses a h e = rw (settled_refused h, e) (record { status = refl; env = refl; value = refl; lits = refl; ends = refl })
+module _ (n : ℕ) (env : EncoderEnv) (lits ends : List ℕ) (ok : Outcome) where
+  settled_by : (e : Refusal) → number e ≡ n → settled n env lits ends ok ≡ refused (number e) env lits ends
+  settled_by e h = let some = number_some e in settled_refused (number e) n h env lits ends ok (λ z. omega arith)
 
-  -- an acceptance
-  pub accepts : (a : Answer) (l e : List ℕ) → r ≡ 0 → Answers ok a l e → Answers (settled status env lits ends ok) a l e
-  accepts a l e h k = rw (settled_accepted h) k
+  -- a call that leaves a job, and a reading: refused
+  pub refuses : (e : Refusal) → number e ≡ n → {r : Result EncoderEnv Refusal} → r ≡ Err e → Answers (settled n env lits ends ok) (adds env r) lits ends
+  refuses e h is = rw (is, settled_by e h) (record { status = refl; env = refl; value = refl; lits = refl; ends = refl })
 
--- the first n checks hold: the number is that of the rest
-abbrev pub FirstHold : ℕ → List Check → Type 0
-FirstHold n cs = status_of cs ≡ status_of (drop n cs)
+  pub reading_refused : (e : Refusal) → number e ≡ n → {r : Result ℤ Refusal} → r ≡ Err e → Answers (settled n env lits ends ok) (reads env r) lits ends
+  reading_refused e h is = rw (is, settled_by e h) (record { status = refl; env = refl; value = refl; lits = refl; ends = refl })
+
+  -- accepted
+  pub accepts : (a : Answer) (l e : List ℕ) → 0 ≡ n → Answers ok a l e → Answers (settled n env lits ends ok) a l e
+  accepts a l e h k = rw (settled_accepted n n refl env lits ends ok (sym h)) k
 
 -- Checks one list after another --------------------------------------------------------------------------------------
-
--- no number is 0
-abbrev pub Numbered : List Check → Type 0
-Numbered [] = Unit
-Numbered (c ∷ cs) = (0 < c.number) × Numbered cs
 
 pub numbered_both : (cs ds : List Check) → Numbered cs → Numbered ds → Numbered (cs ++ ds)
 numbered_both [] ds n m = m

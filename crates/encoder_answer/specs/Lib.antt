@@ -1,5 +1,5 @@
 pub mod Outcome
 pub mod Adding
-pub mod Sizes
+pub mod Call
 pub mod Encoded
 pub mod Accepted

@@ -1,32 +1,17 @@
-// What every public call answers, and what those that add have in common: the checks of space and the job after it.
+// What the public calls answer, and what those that add have in common: the checks of space, the writing and the job after it.
 #![tactic(auto)]
 
-ghost use Rattle.std.specs.Prelude.{◌≡◌, pos, ◌^◌, ◌<◌};
-ghost use Rattle.encoder_answer.specs.Outcome.{status_of};
-ghost use Rattle.encoder_answer.specs.Adding.{counts_of, job_with, space_checks};
+ghost use Rattle.std.specs.Prelude.{◌≡◌, ◌^◌, ◌<◌, None, Some};
+ghost use Rattle.refusal.specs.Number.{status};
+ghost use Rattle.encoder_answer.specs.Outcome.{Answers, adds, status_of};
+ghost use Rattle.encoder_answer.specs.Adding.{counts_of, job_with, space_checks, with_record};
+ghost use Rattle.encoder_answer.specs.Call.{Fits, JobAddition, JobChecks, Passed, Settles, CallWrote, call_outcome, job_after};
 
 use clause_set::Counts;
 use encoder_env::EncoderEnv;
 use log_linear::RuleCounts;
-
-// The number answered, the job and the value of a reading.
-#[derive(Clone, Copy)]
-pub struct Answer {
-    pub status: u32,
-    pub env: EncoderEnv,
-    pub value: i32,
-}
-
-// A refusal.
-pub fn refusal(env: EncoderEnv, status: u32) -> Answer
-    ensures { result ≡ record { status = status; env = env; value = pos 0 } }
-{
-    Answer {
-        status,
-        env,
-        value: 0,
-    }
-}
+use log_var::{EncodedVar, LogEncoding};
+use refusal::Refusal;
 
 // The clauses and literals in use.
 pub fn counts_of(env: EncoderEnv) -> Counts
@@ -39,19 +24,19 @@ pub fn counts_of(env: EncoderEnv) -> Counts
 }
 
 // Whether the variables and the stores have room for what a call adds, by the counts after it.
-pub fn space_status(vars: u32, used: Counts, lits: usize, ends: usize) -> u32
-    ensures { result ≡ status_of (space_checks vars used.lits used.clauses lits ends) }
+pub fn space_checks(vars: u32, used: Counts, lits: usize, ends: usize) -> Result<(), Refusal>
+    ensures { status result ≡ status_of (space_checks vars used.lits used.clauses lits ends) }
 {
     if 65535 < vars {
-        return 14;
+        return Err(Refusal::TooManyVariables);
     }
     if lits < used.lits {
-        return 15;
+        return Err(Refusal::NoSpace);
     }
     if ends <= used.clauses {
-        return 15;
+        return Err(Refusal::NoSpace);
     }
-    0
+    Ok(())
 }
 
 // The job with the counts after a call that adds.
@@ -66,15 +51,93 @@ pub fn grown(env: EncoderEnv, vars: u32, used: Counts) -> EncoderEnv
     job
 }
 
-// The answer where a rule is accepted.
-pub fn rule_accepted(env: EncoderEnv, new: RuleCounts) -> Answer
-    requires { (new.used.clauses < 2 ^ 32) × (new.used.lits < 2 ^ 32) }
-    ensures { result ≡ record { status = 0; env = job_with env new.vars new.used; value = pos 0 } }
+// The job with a new setting's record behind those in use.
+pub fn with_record(env: EncoderEnv, e: LogEncoding) -> EncoderEnv
+    requires { env.count < 32 }
+    ensures { result ≡ with_record env e }
 {
-    let next = grown(env, new.vars, new.used);
-    Answer {
-        status: 0,
-        env: next,
-        value: 0,
+    let at = env.count as usize;
+    let mut job = env;
+    let mut encodings = env.encodings;
+    encodings[at] = e;
+    job.encodings = encodings;
+    job.count = env.count + 1;
+    job
+}
+
+// What a call wrote: the counts of variables and of the stores after it, and the record of a new setting.
+#[derive(Clone, Copy)]
+pub struct Written {
+    pub vars: u32,
+    pub used: Counts,
+    pub setting: Option<LogEncoding>,
+}
+
+impl From<RuleCounts> for Written {
+    ghost from_gives = { λ r w. w ≡ record { vars = r.vars; used = r.used; setting = None } };
+
+    fn from(new: RuleCounts) -> Written {
+        Written {
+            vars: new.vars,
+            used: new.used,
+            setting: None,
+        }
     }
+}
+
+impl From<EncodedVar> for Written {
+    ghost from_gives = { λ r w. w ≡ record { vars = r.vars; used = r.used; setting = Some r.encoding } };
+
+    fn from(new: EncodedVar) -> Written {
+        Written {
+            vars: new.vars,
+            used: new.used,
+            setting: Some(new.encoding),
+        }
+    }
+}
+
+// The job after what a call wrote.
+fn job_after(env: EncoderEnv, new: Written) -> EncoderEnv
+    requires { Fits env new }
+    ensures { result ≡ job_after env new }
+{
+    let job = grown(env, new.vars, new.used);
+    match new.setting {
+        Some(e) => with_record(job, e),
+        None => job,
+    }
+}
+
+// A call that adds: its checks but those of space, and what it writes behind the counts in use.
+pub trait AddingCall {
+    ghost asks: { Self → JobChecks };
+
+    ghost gives: { Self → JobAddition };
+
+    fn check(&self, env: EncoderEnv, lits: usize, ends: usize) -> Result<(), Refusal>
+        ensures number { status result ≡ status_of (asks self.now env lits ends) }
+        ensures settles { Settles env lits ends (asks self.now env lits ends) (gives self.now env) };
+
+    fn write(&self, env: EncoderEnv, lits: &mut [u32], ends: &mut [u32]) -> Written
+        requires { Passed (asks self.now env) }
+        ensures { CallWrote env (gives self.now env) lits.old ends.old result lits.new ends.new };
+}
+
+// Makes a call: where its checks hold, what it takes is counted with nothing lent, and it is written where that has space.
+pub fn add<A: AddingCall>(
+    call: &A,
+    env: EncoderEnv,
+    lits: &mut [u32],
+    ends: &mut [u32],
+) -> Result<EncoderEnv, Refusal>
+    ensures { Answers (call_outcome (A.asks call.now) (A.gives call.now) env lits.old ends.old) (adds env result) lits.new ends.new }
+{
+    call.check(env, lits.len(), ends.len())?;
+    let mut no_lits = [0u32; 0];
+    let mut no_ends = [0u32; 0];
+    let size = call.write(env, &mut no_lits, &mut no_ends);
+    space_checks(size.vars, size.used, lits.len(), ends.len())?;
+    let new = call.write(env, lits, ends);
+    Ok(job_after(env, new))
 }

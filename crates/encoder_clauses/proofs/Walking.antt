@@ -1,11 +1,12 @@
 -- What each place of the code says of the definitions: along a clause, and clause by clause.
 use Prim.Native.Nat.{◌*◌, ◌+◌, ◌-◌, ◌<◌, ◌≤◌, suc, ℕ}
-use borrow.Author.Tests.{le-leb, le-ltb, lt-leb, lt-ltb}
-use lib.ListN.{drop, get_or, length}
-use lib.Seq.{drop-cons}
+use borrow.Author.Tests.{le-leb, lt-leb}
+use lib.ListN.{get_or}
 use mathlib.Core.Bool.{Bool, ◌&&◌, false, true}
-use mathlib.Core.List.{List}
-use mathlib.Core.Path.{◌∙◌, ◌≡◌, refl, sym}
+use mathlib.Core.List.{List, [], ◌∷◌}
+use lib.Dec.{ltb}
+use Rattle.std.specs.List.{list_all}
+use mathlib.Core.Path.{◌∙◌, ◌≡◌, ap, refl, sym}
 use native.Mathlib.Numerals.{add-one}
 use native.Mathlib.Omega.{arith}
 use Rattle.clause_set.specs.Bytes.{all_hold, clause_holds}
@@ -17,12 +18,9 @@ use Rattle.encoder_clauses.specs.Readable.{clauses_readable, known, lits_below, 
 
 -- The literals of a clause -------------------------------------------------------------------------------------------
 
-module _ (c : List ℕ) (i limit : ℕ) (h : i < length c) where
-  pub below_stops : limit ≤ get_or c i 0 → false ≡ lits_below limit (drop i c)
-  below_stops e = sym (rw (drop-cons c i 0 h, le-ltb (get_or c i 0) limit e))
-
-  pub below_later : get_or c i 0 < limit → lits_below limit (drop i c) ≡ lits_below limit (drop (i + 1) c)
-  below_later e = rw (add-one, drop-cons c i 0 h, lt-ltb (get_or c i 0) limit e)
+pub below_listed : (limit : ℕ) (c : List ℕ) → list_all (λ l. ltb l limit) c ≡ lits_below limit c
+below_listed limit [] = refl
+below_listed limit (l ∷ c) = ap (λ (b : Bool). ltb l limit && b) (below_listed limit c)
 
 -- The test of all clauses --------------------------------------------------------------------------------------------
 

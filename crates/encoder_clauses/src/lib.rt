@@ -6,21 +6,14 @@ ghost use Rattle.clause_set.specs.Bytes.{all_hold};
 ghost use Rattle.encoder_env.specs.WellFormed.{well_formed};
 ghost use Rattle.encoder_clauses.specs.Readable.{clauses_readable, clauses_written, lits_below, readable};
 
-use clause_set::evaluate_part;
+use clause_set::evaluate;
 use encoder_env::{EncoderEnv, well_formed};
 
 // Whether every literal of a clause is below a limit.
 fn lits_below(clause: &[u32], limit: u32) -> bool
     ensures { result ≡ lits_below limit clause.now }
 {
-    let mut i: usize = 0;
-    while i < clause.len() {
-        if limit <= clause[i] {
-            return false;
-        }
-        i += 1;
-    }
-    true
+    clause.iter().all(|l| *l < limit)
 }
 
 // Whether no end falls or passes the literal count, and every literal of a clause is below 2 × variables.
@@ -28,14 +21,12 @@ fn clauses_readable(env: EncoderEnv, lits: &[u32], ends: &[u32]) -> bool
     requires { well_formed env (length lits.now) (length ends.now) ≡ true }
     ensures { result ≡ clauses_readable env lits.now ends.now }
 {
-    let clauses = env.clauses as usize;
     let literals = env.literals;
     let limit = 2 * env.variables;
     if literals < ends[0] {
         return false;
     }
-    let mut k: usize = 0;
-    while k < clauses {
+    for k in 0..env.clauses as usize {
         let begin = ends[k];
         let end = ends[k + 1];
         if end < begin {
@@ -44,12 +35,9 @@ fn clauses_readable(env: EncoderEnv, lits: &[u32], ends: &[u32]) -> bool
         if literals < end {
             return false;
         }
-        let from = begin as usize;
-        let to = end as usize;
-        if !lits_below(&lits[from..to], limit) {
+        if !lits_below(&lits[begin as usize..end as usize], limit) {
             return false;
         }
-        k += 1;
     }
     true
 }
@@ -69,15 +57,11 @@ pub fn satisfies(env: EncoderEnv, lits: &[u32], ends: &[u32], assignment: &[u8])
     requires { readable env lits.now ends.now ≡ true }
     ensures { result ≡ all_hold assignment.now (clauses_written env lits.now ends.now) }
 {
-    let clauses = env.clauses as usize;
-    let mut k: usize = 0;
-    while k < clauses {
-        let begin = ends[k];
-        let end = ends[k + 1];
-        if !evaluate_part(lits, begin as usize, end as usize, assignment) {
+    for k in 0..env.clauses as usize {
+        let clause = &lits[ends[k] as usize..ends[k + 1] as usize];
+        if !evaluate(clause, assignment) {
             return false;
         }
-        k += 1;
     }
     true
 }

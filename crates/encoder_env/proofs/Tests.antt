@@ -5,6 +5,11 @@ use Prim.Native.Nat.{◌+◌, ◌<◌, ◌≤◌, suc, zero, ℕ}
 use native.Mathlib.Numerals.{add-one}
 use native.Mathlib.Omega.{arith}
 use lib.Dec.{eqb, leb, ltb}
+use lib.ListN.{get_or, length, take}
+use mathlib.Core.List.{List}
+use Rattle.std.specs.List.{list_all}
+use Rattle.std.proofs.lemmas.List.{take_all}
+use Rattle.std.proofs.lemmas.List.Folds.{list_all_more}
 use lib.IntN.{negsuc, pos, ℤ}
 use lib.Signed.{◌≤ℤ◌, le_z, lt_z}
 use mir.Syntax.{w32}
@@ -98,6 +103,17 @@ module _ (f : ℕ → Bool) where
     go : (t : Bool) → eqb i n ≡ t → (i < n → all_below n f ≡ false) → (all_below n f && f n) ≡ false
     go true k r = let p : f n ≡ false = ap f (sym (eqb-true i n k)) ∙ e in rw p (and_false (all_below n f))
     go false k r = let m = eqb-false i n k in rw (r (omega arith))
+
+-- the test of every element of a list
+all_taken : {A : Type 0} (f : A → Bool) (xs : List A) (d : A) (n : ℕ) → n ≤ length xs → list_all f (take n xs) ≡ all_below n (λ i. f (get_or xs i d))
+unfolding all_below
+all_taken f xs d zero h = refl
+all_taken {A = A} f xs d (suc n) h =
+    let more : list_all f (take (n + 1) xs) ≡ (list_all f (take n xs) && f (get_or xs n d)) = list_all_more f xs n d (omega arith) in
+    rw (← add-one, more, all_taken f xs d n (omega arith))
+
+pub all_listed : {A : Type 0} (f : A → Bool) (xs : List A) (d : A) → list_all f xs ≡ all_below (length xs) (λ i. f (get_or xs i d))
+all_listed f xs d = ap (list_all f) (sym (take_all (length xs) xs (omega arith))) ∙ all_taken f xs d (length xs) (omega arith)
 
 -- Bounds of a setting ------------------------------------------------------------------------------------------------
 

@@ -66,20 +66,14 @@ fn lits_fit(lits: [Lit; 12], len: u32, variables: u32) -> bool
     requires { variables ≤ 65535 }
     ensures { result ≡ lits_fit variables len lits }
 {
-    let mut i: u32 = 0;
-    while i < 12 {
-        let l = lits[i as usize];
-        let n = l.0;
-        if i < len {
-            if 2 * variables <= n {
+    for (i, l) in lits.iter().enumerate() {
+        if i < len as usize {
+            if 2 * variables <= l.0 {
                 return false;
             }
-        } else {
-            if n != 0 {
-                return false;
-            }
+        } else if l.0 != 0 {
+            return false;
         }
-        i += 1;
     }
     true
 }
@@ -131,21 +125,14 @@ fn records_hold(env: EncoderEnv) -> bool
     requires { env.variables ≤ 65535 }
     ensures { result ≡ all_below 32 (record_holds env) }
 {
-    let count = env.count;
-    let variables = env.variables;
-    let mut i: u32 = 0;
-    while i < 32 {
-        let e = env.encodings[i as usize];
-        if i < count {
-            if !encoding_holds(e, variables) {
+    for (i, e) in env.encodings.iter().enumerate() {
+        if i < env.count as usize {
+            if !encoding_holds(*e, env.variables) {
                 return false;
             }
-        } else {
-            if !is_spare(e) {
-                return false;
-            }
+        } else if !is_spare(*e) {
+            return false;
         }
-        i += 1;
     }
     true
 }

@@ -26,10 +26,10 @@ use Rattle.encoder_env.proofs.Tests.{both, lez_read}
 use Rattle.encoder_answer.specs.Adding.{grown}
 use Rattle.encoder_linear.specs.Encoded.{LinearEncodes, LinearExact}
 use Rattle.encoder_answer.specs.Encoded.{RuleEncodes, RuleExact, number}
-use Rattle.encoder_answer.specs.Outcome.{Check, check, status_of}
+use Rattle.encoder_answer.specs.Outcome.{Check, Numbered, check, status_of}
 use Rattle.encoder_linear.specs.Sums.{argument_checks, coef_at, coef_fits, coefs_fit, constant_fits, linear_checks, linear_outcome, operation_known, setting_at, setting_known, settings_known, settings_rise, sum_encoded, sum_reached, term_count, terms_paired}
 use Rattle.encoder_answer.proofs.Adding.{RuleAdded, known, number_same, rule_encodes, rule_exact}
-use Rattle.encoder_answer.proofs.Statuses.{Numbered, both_lists, passed}
+use Rattle.encoder_answer.proofs.Statuses.{both_lists, passed}
 
 -- Terms --------------------------------------------------------------------------------------------------------------
 

@@ -1,19 +1,22 @@
 -- What the checks of a sum settle for the leaf functions.
-use mathlib.Core.Path.{◌≡◌}
-use mathlib.Core.List.{List}
+use mathlib.Core.Path.{◌≡◌, ◌∙◌, sym}
+use mathlib.Core.Bool.{cond, not}
+use mathlib.Core.List.{List, [], ◌∷◌}
 use Prim.Native.Nat.{◌<◌, ℕ}
 use native.Mathlib.Omega.{arith}
+use lib.Dec.{ltb}
 use lib.IntN.{ℤ}
-use Rattle.clause_set.specs.declared.Counts.{Counts}
+use Rattle.refusal.specs.Number.{number}
+use Rattle.refusal.specs.declared.Refusal.{Refusal}
+use Rattle.log_encoding.specs.AdderSize.{greatest_height, too_tall}
+use Rattle.encoder_answer.specs.Outcome.{Check, check, status_of}
+use Rattle.encoder_answer.proofs.Statuses.{number_some, stops, then_rest}
 use Rattle.log_sum.specs.Terms.{TermsReady}
 use Rattle.encoder_env.specs.declared.EncoderEnv.{EncoderEnv}
-use Rattle.encoder_env.proofs.Kept.{all_at}
-use Rattle.encoder_linear.specs.Ready.{SumReady}
-use Rattle.encoder_answer.specs.Adding.{counts_of, grown}
-use Rattle.encoder_answer.specs.Outcome.{status_of}
-use Rattle.encoder_linear.specs.Sums.{coef_at, coef_fits, linear_checks, setting_at, setting_known, sum_encoded, term_count}
-use Rattle.encoder_linear.proofs.Added.{ArgumentsKnown, coef_small, numbered, setting_below, sum_known}
-use Rattle.encoder_answer.proofs.Answering.{AddingCall}
+use Rattle.encoder_env.proofs.Kept.{all_at, well_formed_of}
+use Rattle.encoder_answer.specs.Call.{Settles, rule}
+use Rattle.encoder_linear.specs.Sums.{argument_checks, coef_at, coef_fits, linear_checks, setting_at, setting_known, sum_encoded, sum_reached, term_count}
+use Rattle.encoder_linear.proofs.Added.{ArgumentsKnown, arguments_numbered, coef_small, numbered, setting_below, sum_known}
 use Rattle.encoder_answer.proofs.Ready.{setting_ready}
 
 -- what the checks settle for the leaf functions
@@ -30,30 +33,27 @@ terms_ready env lits ends op constant terms a =
           record { setting = omega (arith, s.0, a.holds.count_max); natural = s.1; coef_up = omega arith; coef_down = omega arith };
     }
 
-pub sum_ready : (env : EncoderEnv) (lits ends op : ℕ) (constant : ℤ) (terms : List ℤ) → status_of (linear_checks env lits ends op constant terms) ≡ 0
-    → {at : Counts} → at ≡ counts_of env → SumReady env op constant terms at
-sum_ready env lits ends op constant terms h e =
-    let s = sum_known env lits ends op constant terms h in
-    let a = s.arguments in
-    let k = a.holds in
-    rw e
-    (record {
-      terms_ready = terms_ready env lits ends op constant terms a;
-      constant_up = omega (arith, a.constant_small);
-      constant_down = omega (arith, a.constant_small);
-      vars_fit = k.variables_max;
-      lits_fit = omega (arith, k.literals_in, k.lits_max);
-      clauses_fit = omega (arith, k.clauses_in, k.ends_max);
-      heights = s.heights;
-    })
-
-abbrev pub sum_call : (env : EncoderEnv) (lits ends op : ℕ) (constant : ℤ) (terms : List ℤ) → AddingCall env lits ends
-sum_call env lits ends op constant terms =
-    let out = sum_encoded env op constant terms in
+-- what the checks settle of the call
+pub sum_settles : (env : EncoderEnv) (lits ends op : ℕ) (constant : ℤ) (terms : List ℤ)
+    → Settles env lits ends (linear_checks env lits ends op constant terms) (rule (sum_encoded env op constant terms))
+sum_settles env lits ends op constant terms =
     record {
-      checks = linear_checks env lits ends op constant terms;
       numbered = numbered env lits ends op constant terms;
-      holds = λ h. (sum_known env lits ends op constant terms h).arguments.holds;
-      clauses = out.clauses;
-      job = grown env out.vars out.clauses;
+      formed = λ h. well_formed_of env lits ends (sum_known env lits ends op constant terms h).arguments.holds;
+      free = λ h e none. cc;
     }
+
+-- all checks but those of space, by the first and by the height
+module _ (env : EncoderEnv) (lits ends op : ℕ) (constant : ℤ) (terms : List ℤ) where
+  abbrev first : List Check
+  first = argument_checks env lits ends op constant terms
+
+  abbrev last : List Check
+  last = check (not (too_tall (sum_reached env op constant terms))) 13 ∷ []
+
+  pub refused_first : (x : Refusal) → number x ≡ status_of first → number x ≡ status_of (linear_checks env lits ends op constant terms)
+  refused_first x h = let some = number_some x in h ∙ sym (stops first last (λ z. omega arith))
+
+  pub height_decides : 0 ≡ status_of first → {n : ℕ} → n ≡ greatest_height (sum_reached env op constant terms)
+      → status_of (linear_checks env lits ends op constant terms) ≡ cond (not (ltb 12 n)) 0 13
+  height_decides h e = rw e (then_rest first last (arguments_numbered env lits ends op constant terms) (sym h))

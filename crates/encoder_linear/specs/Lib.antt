@@ -1,4 +1,3 @@
 pub mod Sums
-pub mod Ready
 pub mod Encoded
 pub mod Accepted

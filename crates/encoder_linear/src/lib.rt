@@ -2,26 +2,21 @@
 #![tactic(auto)]
 
 ghost use Rattle.std.specs.Prelude.{◌≡◌};
-ghost use Rattle.encoder_answer.specs.Outcome.{Answers, status_of};
-ghost use Rattle.encoder_answer.specs.Sizes.{RuleSize};
-ghost use Rattle.encoder_linear.specs.Ready.{SumReady};
-ghost use Rattle.encoder_linear.specs.Sums.{argument_checks, coef_fits, coefs_fit, constant_fits, linear_checks, linear_outcome, linear_status, setting_known, settings_known, settings_rise, sum_encoded, terms_paired};
+ghost use Rattle.refusal.specs.Number.{status};
+ghost use Rattle.encoder_answer.specs.Call.{rule};
+ghost use Rattle.encoder_answer.specs.Outcome.{Answers, adds, status_of};
+ghost use Rattle.encoder_linear.specs.Sums.{argument_checks, coef_fits, coefs_fit, constant_fits, linear_checks, linear_outcome, setting_known, settings_known, settings_rise, sum_encoded, terms_paired};
 
-use clause_set::Counts;
-use encoder_answer::{Answer, counts_of, refusal, rule_accepted, space_status};
+use encoder_answer::{AddingCall, Written, add, counts_of};
 use encoder_env::{EncoderEnv, well_formed};
-use log_linear::RuleCounts;
 use log_turned::{encode_turned, turned_height};
+use refusal::Refusal;
 
 // Whether no setting lacks its coefficient, and there are at most six terms.
 fn terms_paired(terms: &[i32]) -> bool
     ensures { result ≡ terms_paired terms.now }
 {
-    let n = terms.len();
-    if 12 < n {
-        return false;
-    }
-    n % 2 == 0
+    terms.len() <= 12 && terms.len() % 2 == 0
 }
 
 // Whether a setting is one of the job's.
@@ -41,14 +36,11 @@ fn setting_known(count: u32, x: i32) -> bool
 fn settings_known(count: u32, terms: &[i32]) -> bool
     ensures { result ≡ settings_known count terms.now }
 {
-    let n = terms.len() / 2;
-    let mut i: usize = 0;
-    while i < n {
+    for i in 0..terms.len() / 2 {
         let x = terms[2 * i];
         if !setting_known(count, x) {
             return false;
         }
-        i += 1;
     }
     true
 }
@@ -57,15 +49,12 @@ fn settings_known(count: u32, terms: &[i32]) -> bool
 fn settings_rise(terms: &[i32]) -> bool
     ensures { result ≡ settings_rise terms.now }
 {
-    let n = terms.len() / 2;
-    let mut i: usize = 0;
-    while i + 1 < n {
-        let a = terms[2 * i];
-        let b = terms[2 * (i + 1)];
+    for i in 1..terms.len() / 2 {
+        let a = terms[2 * (i - 1)];
+        let b = terms[2 * i];
         if b <= a {
             return false;
         }
-        i += 1;
     }
     true
 }
@@ -87,14 +76,11 @@ fn coef_fits(k: i32) -> bool
 fn coefs_fit(terms: &[i32]) -> bool
     ensures { result ≡ coefs_fit terms.now }
 {
-    let n = terms.len() / 2;
-    let mut i: usize = 0;
-    while i < n {
+    for i in 0..terms.len() / 2 {
         let k = terms[2 * i + 1];
         if !coef_fits(k) {
             return false;
         }
-        i += 1;
     }
     true
 }
@@ -113,38 +99,38 @@ fn constant_fits(k: i32) -> bool
 }
 
 // The checks of a sum, but for heights and space.
-pub fn argument_status(
+pub fn argument_checks(
     env: EncoderEnv,
     lits: usize,
     ends: usize,
     op: u32,
     constant: i32,
     terms: &[i32],
-) -> u32
-    ensures { result ≡ status_of (argument_checks env lits ends op constant terms.now) }
+) -> Result<(), Refusal>
+    ensures { status result ≡ status_of (argument_checks env lits ends op constant terms.now) }
 {
     if !well_formed(env, lits, ends) {
-        return 1;
+        return Err(Refusal::IllFormed);
     }
     if 6 <= op {
-        return 12;
+        return Err(Refusal::UnknownOperation);
     }
     if !terms_paired(terms) {
-        return 9;
+        return Err(Refusal::BadTerms);
     }
     if !settings_known(env.count, terms) {
-        return 8;
+        return Err(Refusal::UnknownSetting);
     }
     if !settings_rise(terms) {
-        return 9;
+        return Err(Refusal::BadTerms);
     }
     if !coefs_fit(terms) {
-        return 10;
+        return Err(Refusal::BadCoefficient);
     }
     if !constant_fits(constant) {
-        return 11;
+        return Err(Refusal::BadConstant);
     }
-    0
+    Ok(())
 }
 
 // The checks of a sum, but for space.
@@ -155,58 +141,47 @@ fn linear_checks(
     op: u32,
     constant: i32,
     terms: &[i32],
-) -> u32
-    ensures { result ≡ status_of (linear_checks env lits ends op constant terms.now) }
+) -> Result<(), Refusal>
+    ensures { status result ≡ status_of (linear_checks env lits ends op constant terms.now) }
 {
-    let status = argument_status(env, lits, ends, op, constant, terms);
-    if status != 0 {
-        return status;
+    argument_checks(env, lits, ends, op, constant, terms)?;
+    if 12 < turned_height(env.encodings, op, constant, terms) {
+        return Err(Refusal::ColumnTooTall);
     }
-    let encodings = env.encodings;
-    if 12 < turned_height(encodings, op, constant, terms) {
-        return 13;
-    }
-    0
+    Ok(())
 }
 
-// What a sum takes: nothing is lent, so nothing is written.
-fn linear_size(env: EncoderEnv, op: u32, constant: i32, terms: &[i32], at: Counts) -> RuleCounts
-    requires { SumReady env op constant terms.now at }
-    ensures { RuleSize (sum_encoded env op constant terms.now) at result }
-{
-    let mut lits = [0u32; 0];
-    let mut ends = [0u32; 0];
-    let encodings = env.encodings;
-    encode_turned(
-        &mut lits,
-        &mut ends,
-        encodings,
-        op,
-        constant,
-        terms,
-        env.variables,
-        at,
-    )
-}
-
-// The checks of a sum.
-fn linear_status(
-    env: EncoderEnv,
-    lits: usize,
-    ends: usize,
+// The constant plus every coefficient times its setting, compared with 0.
+#[derive(Clone, Copy)]
+struct Sum<'a> {
     op: u32,
     constant: i32,
-    terms: &[i32],
-) -> u32
-    ensures { result ≡ linear_status env lits ends op constant terms.now }
-{
-    let status = linear_checks(env, lits, ends, op, constant, terms);
-    if status != 0 {
-        return status;
+    terms: &'a [i32],
+}
+
+impl AddingCall for Sum<'_> {
+    ghost asks = { λ s env lits ends. linear_checks env lits ends s.op s.constant s.terms.now };
+
+    ghost gives = { λ s env. rule (sum_encoded env s.op s.constant s.terms.now) };
+
+    fn check(&self, env: EncoderEnv, lits: usize, ends: usize) -> Result<(), Refusal> {
+        linear_checks(env, lits, ends, self.op, self.constant, self.terms)
     }
-    let at = counts_of(env);
-    let size = linear_size(env, op, constant, terms, at);
-    space_status(size.vars, size.used, lits, ends)
+
+    fn write(&self, env: EncoderEnv, lits: &mut [u32], ends: &mut [u32]) -> Written {
+        let at = counts_of(env);
+        let new = encode_turned(
+            lits,
+            ends,
+            env.encodings,
+            self.op,
+            self.constant,
+            self.terms,
+            env.variables,
+            at,
+        );
+        Written::from(new)
+    }
 }
 
 // A rule: the constant plus every coefficient times its setting is 0 (operation 0), not 0 (1), at least 0 (2), at most 0 (3), below 0 (4),
@@ -218,24 +193,17 @@ pub fn encode_linear(
     op: u32,
     constant: i32,
     terms: &[i32],
-) -> Answer
-    ensures { Answers (linear_outcome env lits.old ends.old op constant terms.now) result lits.new ends.new }
+) -> Result<EncoderEnv, Refusal>
+    ensures { Answers (linear_outcome env lits.old ends.old op constant terms.now) (adds env result) lits.new ends.new }
 {
-    let status = linear_status(env, lits.len(), ends.len(), op, constant, terms);
-    if status != 0 {
-        return refusal(env, status);
-    }
-    let at = counts_of(env);
-    let encodings = env.encodings;
-    let new = encode_turned(
+    add(
+        &Sum {
+            op,
+            constant,
+            terms,
+        },
+        env,
         lits,
         ends,
-        encodings,
-        op,
-        constant,
-        terms,
-        env.variables,
-        at,
-    );
-    rule_accepted(env, new)
+    )
 }

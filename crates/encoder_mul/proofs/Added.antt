@@ -1,7 +1,7 @@
 -- An accepted product: its settings are known (`ProductKnown`), and its clauses are right (`mul_encodes`, `mul_exact`).
 use mathlib.Core.Path.{◌≡◌, ◌∙◌, ap₂, sym}
 use mathlib.Core.Bool.{◌&&◌, false, not}
-use mathlib.Core.List.{List}
+use mathlib.Core.List.{List, [], ◌∷◌}
 use Prim.Native.Nat.{◌<◌, ℕ}
 use native.Mathlib.Omega.{arith}
 use lib.Dec.{lit<, ltb}
@@ -20,13 +20,33 @@ use Rattle.encoder_env.proofs.Tests.{both}
 use Rattle.encoder_answer.specs.Adding.{grown}
 use Rattle.encoder_mul.specs.Encoded.{MulEncodes, MulExact}
 use Rattle.encoder_answer.specs.Encoded.{RuleEncodes, RuleExact, number}
-use Rattle.encoder_answer.specs.Outcome.{Check, status_of}
-use Rattle.encoder_mul.specs.Products.{mul_checks, mul_outcome, product_encoded, product_reached}
+use Rattle.encoder_answer.specs.Outcome.{Check, Numbered, check, status_of}
+use Rattle.encoder_mul.specs.Products.{argument_checks, mul_checks, mul_outcome, product_encoded, product_reached}
 use Rattle.encoder_answer.proofs.Adding.{RuleAdded, known, number_same, rule_encodes, rule_exact}
-use Rattle.encoder_answer.proofs.Statuses.{Numbered, passed}
+use Rattle.encoder_answer.proofs.Statuses.{both_lists, passed}
 
 module _ (env : EncoderEnv) (lits ends x y m : ℕ) where
-  -- a product that passed the checks
+  -- its settings are known where it passed the first checks
+  pub record FactorsKnown : Type 0 where
+    pub holds : Kept env lits ends
+    pub x_known : x < env.count
+    pub y_known : y < env.count
+    pub m_known : m < env.count
+
+  pub factors_known : status_of (argument_checks env lits ends x y m) ≡ 0 → FactorsKnown
+  factors_known h =
+      let w = passed (well_formed env lits ends) _ 0 h in
+      let s = (passed (ltb x env.count && ltb y env.count && ltb m env.count) 0 7 w.1).0 in
+      let b = both (ltb x env.count && ltb y env.count) (ltb m env.count) s in
+      let c = both (ltb x env.count) (ltb y env.count) b.0 in
+      record {
+        holds = kept env lits ends w.0;
+        x_known = ltb-true x env.count c.0;
+        y_known = ltb-true y env.count c.1;
+        m_known = ltb-true m env.count b.1;
+      }
+
+  -- a product that passed all but those of space
   pub record ProductKnown : Type 0 where
     pub holds : Kept env lits ends
     pub x_known : x < env.count
@@ -34,18 +54,19 @@ module _ (env : EncoderEnv) (lits ends x y m : ℕ) where
     pub m_known : m < env.count
     pub heights : too_tall (product_reached env x y m) ≡ false
 
+  pub arguments_numbered : Numbered (argument_checks env lits ends x y m)
+  arguments_numbered = (lit< tt, (lit< tt, tt))
+
   pub product_known : status_of (mul_checks env lits ends x y m) ≡ 0 → ProductKnown
   product_known h =
-      let w = passed (well_formed env lits ends) _ 0 h in
-      let s = passed (ltb x env.count && ltb y env.count && ltb m env.count) _ 7 w.1 in
-      let t = passed (not (too_tall (product_reached env x y m))) 0 12 s.1 in
-      let b = both (ltb x env.count && ltb y env.count) (ltb m env.count) s.0 in
-      let c = both (ltb x env.count) (ltb y env.count) b.0 in
+      let p = both_lists (argument_checks env lits ends x y m) (check (not (too_tall (product_reached env x y m))) 13 ∷ []) arguments_numbered h in
+      let t = passed (not (too_tall (product_reached env x y m))) 0 12 p.1 in
+      let f = factors_known p.0 in
       record {
-        holds = kept env lits ends w.0;
-        x_known = ltb-true x env.count c.0;
-        y_known = ltb-true y env.count c.1;
-        m_known = ltb-true m env.count b.1;
+        holds = f.holds;
+        x_known = f.x_known;
+        y_known = f.y_known;
+        m_known = f.m_known;
         heights = not-true (too_tall (product_reached env x y m)) t.0;
       }
 

@@ -2,16 +2,13 @@
 use mathlib.Core.Path.{◌≡◌}
 use Prim.Native.Nat.{◌<◌, ℕ}
 use native.Mathlib.Omega.{arith}
-use Rattle.clause_set.specs.declared.Counts.{Counts}
 use Rattle.log_product.specs.Ready.{ProductsReady}
 use Rattle.encoder_env.specs.declared.EncoderEnv.{EncoderEnv}
-use Rattle.encoder_env.proofs.Kept.{Kept}
-use Rattle.encoder_mul.specs.Ready.{MulReady}
-use Rattle.encoder_mul.specs.Products.{mul_checks, product_encoded}
-use Rattle.encoder_answer.specs.Adding.{counts_of, grown}
+use Rattle.encoder_env.proofs.Kept.{Kept, well_formed_of}
+use Rattle.encoder_mul.specs.Products.{argument_checks, mul_checks, product_encoded}
+use Rattle.encoder_answer.specs.Call.{Settles, rule}
 use Rattle.encoder_answer.specs.Outcome.{status_of}
-use Rattle.encoder_mul.proofs.Added.{numbered, product_known}
-use Rattle.encoder_answer.proofs.Answering.{AddingCall}
+use Rattle.encoder_mul.proofs.Added.{ProductKnown, factors_known, numbered, product_known}
 use Rattle.encoder_answer.proofs.Ready.{setting_ready}
 
 pub settings_ready : (env : EncoderEnv) (lits ends x y m : ℕ) → Kept env lits ends → x < env.count → y < env.count → m < env.count
@@ -24,27 +21,19 @@ settings_ready env lits ends x y m k a b c =
       m_known = omega (arith, c, k.count_max);
     }
 
-pub mul_ready : (env : EncoderEnv) (lits ends x y m : ℕ) → status_of (mul_checks env lits ends x y m) ≡ 0
-    → {at : Counts} → at ≡ counts_of env → MulReady env x y m at
-mul_ready env lits ends x y m h e =
-    let p = product_known env lits ends x y m h in
-    let k = p.holds in
-    rw e
-    (record {
-      settings_ready = settings_ready env lits ends x y m k p.x_known p.y_known p.m_known;
-      vars_fit = k.variables_max;
-      lits_fit = omega (arith, k.literals_in, k.lits_max);
-      clauses_fit = omega (arith, k.clauses_in, k.ends_max);
-      heights = p.heights;
-    })
+pub factors_ready : (env : EncoderEnv) (lits ends x y m : ℕ) → status_of (argument_checks env lits ends x y m) ≡ 0 → ProductsReady env.encodings x y m
+factors_ready env lits ends x y m h =
+    let f = factors_known env lits ends x y m h in
+    settings_ready env lits ends x y m f.holds f.x_known f.y_known f.m_known
 
-abbrev pub mul_call : (env : EncoderEnv) (lits ends x y m : ℕ) → AddingCall env lits ends
-mul_call env lits ends x y m =
-    let out = product_encoded env x y m in
+pub known_ready : (env : EncoderEnv) (lits ends x y m : ℕ) → ProductKnown env lits ends x y m → ProductsReady env.encodings x y m
+known_ready env lits ends x y m p = settings_ready env lits ends x y m p.holds p.x_known p.y_known p.m_known
+
+-- what the checks settle of the call
+pub mul_settles : (env : EncoderEnv) (lits ends x y m : ℕ) → Settles env lits ends (mul_checks env lits ends x y m) (rule (product_encoded env x y m))
+mul_settles env lits ends x y m =
     record {
-      checks = mul_checks env lits ends x y m;
       numbered = numbered env lits ends x y m;
-      holds = λ h. (product_known env lits ends x y m h).holds;
-      clauses = out.clauses;
-      job = grown env out.vars out.clauses;
+      formed = λ h. well_formed_of env lits ends (product_known env lits ends x y m h).holds;
+      free = λ h e none. cc;
     }

@@ -1,4 +1,3 @@
 pub mod Products
-pub mod Ready
 pub mod Encoded
 pub mod Accepted

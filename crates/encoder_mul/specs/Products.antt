@@ -1,5 +1,5 @@
 -- The outcome of a product on every input (document 01: operation by operation).
-use Rattle.std.specs.Prelude.{ℕ, ltb, length, ◌&&◌, not, List, [], ◌∷◌}
+use Rattle.std.specs.Prelude.{ℕ, ltb, length, ◌&&◌, not, List, [], ◌++◌, ◌∷◌}
 use Rattle.sat.specs.Encoded.{EncodedRule}
 use Rattle.log_encoding.specs.VarSize.{setting_shape}
 use Rattle.log_encoding.specs.AdderSize.{Reached, too_tall}
@@ -14,13 +14,15 @@ use Rattle.encoder_answer.specs.Outcome.{Check, Outcome, check}
 abbrev pub product_reached : EncoderEnv → ℕ → ℕ → ℕ → List Reached
 product_reached env x y m = mul_reached (setting_shape (int_map env x)) (setting_shape (int_map env y)) (setting_shape (int_map env m))
 
--- all checks but those of space: 8 a setting unknown; 13 a column above 12
+-- all checks but those of heights and space: 8 a setting unknown
+abbrev pub argument_checks : EncoderEnv → ℕ → ℕ → ℕ → ℕ → ℕ → List Check
+argument_checks env lits ends x y m =
+    check (well_formed env lits ends) 1 ∷ check (ltb x env.count && ltb y env.count && ltb m env.count) 8 ∷ []
+
+-- all checks but those of space; 13 a column above 12
 abbrev pub mul_checks : EncoderEnv → ℕ → ℕ → ℕ → ℕ → ℕ → List Check
 mul_checks env lits ends x y m =
-    check (well_formed env lits ends) 1
-    ∷ check (ltb x env.count && ltb y env.count && ltb m env.count) 8
-    ∷ check (not (too_tall (product_reached env x y m))) 13
-    ∷ []
+    argument_checks env lits ends x y m ++ (check (not (too_tall (product_reached env x y m))) 13 ∷ [])
 
 -- the clauses of `encode_mul_log` and the variable count after them
 abbrev pub product_encoded : EncoderEnv → ℕ → ℕ → ℕ → EncodedRule

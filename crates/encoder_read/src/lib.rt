@@ -1,16 +1,17 @@
 // The opening of a job, the reading of a setting and the handing back of a clause.
 #![tactic(auto)]
 
-ghost use Rattle.std.specs.Prelude.{true, ◌≡◌, ◌+◌, ◌<◌};
-ghost use Rattle.encoder_answer.specs.Outcome.{Answers, status_of};
+ghost use Rattle.std.specs.Prelude.{true, ◌≡◌, ◌+◌, IfOk, get_or};
+ghost use Rattle.refusal.specs.Number.{status};
+ghost use Rattle.encoder_answer.specs.Outcome.{Answers, adds, reads, status_of};
 ghost use Rattle.encoder_clauses.specs.Readable.{readable};
-ghost use Rattle.encoder_read.specs.Calls.{all_bits, bytes_checks, clause_checks, clause_outcome, is_assignment, open_checks, open_outcome, opened, read_checks, read_outcome, test_status};
+ghost use Rattle.encoder_read.specs.Calls.{bytes_checks, clause_checks, clause_outcome, is_assignment, open_checks, open_outcome, opened, read_checks, read_outcome, test_status};
 
-use clause_set::{clause_part, entry};
-use encoder_answer::{Answer, refusal};
+use clause_set::entry;
 use encoder_clauses::{readable, satisfies};
 use encoder_env::{EncoderEnv, stores_within, well_formed};
 use log_var::LogEncoding;
+use refusal::Refusal;
 use sat::Lit;
 
 // A job with that many switches and nothing else.
@@ -35,56 +36,55 @@ pub fn opened(switches: u32) -> EncoderEnv
 }
 
 // The checks of an opening.
-fn open_status(switches: u32, lits: usize, ends: usize) -> u32
-    ensures { result ≡ status_of (open_checks switches lits ends) }
+fn open_checks(switches: u32, lits: usize, ends: usize) -> Result<(), Refusal>
+    ensures { status result ≡ status_of (open_checks switches lits ends) }
 {
     if 64 < switches {
-        return 2;
+        return Err(Refusal::TooManySwitches);
     }
     if !stores_within(lits, ends) {
-        return 1;
+        return Err(Refusal::IllFormed);
     }
     if ends < 1 {
-        return 15;
+        return Err(Refusal::NoSpace);
     }
-    0
+    Ok(())
 }
 
 // Opens a job with that many switches, which are its first variables.
-pub fn open(switches: u32, lits: &mut [u32], ends: &mut [u32]) -> Answer
-    ensures { Answers (open_outcome switches lits.old ends.old) result lits.new ends.new }
+pub fn open(switches: u32, lits: &mut [u32], ends: &mut [u32]) -> Result<EncoderEnv, Refusal>
+    ensures { Answers (open_outcome switches lits.old ends.old) (adds (opened 0) result) lits.new ends.new }
 {
-    let status = open_status(switches, lits.len(), ends.len());
-    if status != 0 {
-        return refusal(opened(0), status);
-    }
+    open_checks(switches, lits.len(), ends.len())?;
     clause_set::put(ends, 0, 0);
-    Answer {
-        status: 0,
-        env: opened(switches),
-        value: 0,
-    }
+    Ok(opened(switches))
 }
 
-// The first check of every call but `open`, then those of the clause's number and ends.
-fn clause_status(env: EncoderEnv, lits: usize, ends: &[u32], k: u32) -> u32
-    ensures { result ≡ status_of (clause_checks env lits ends.now k) }
+// The first check of every call but `open`, then those of the clause's number and ends. Answers where the clause begins and ends.
+fn clause_checks(
+    env: EncoderEnv,
+    lits: usize,
+    ends: &[u32],
+    k: u32,
+) -> Result<(usize, usize), Refusal>
+    ensures number { status result ≡ status_of (clause_checks env lits ends.now k) }
+    ensures places { IfOk result (λ p. (p.0 ≡ get_or ends.now k 0) × (p.1 ≡ get_or ends.now (k + 1) 0)) }
 {
     if !well_formed(env, lits, ends.len()) {
-        return 1;
+        return Err(Refusal::IllFormed);
     }
     if k >= env.clauses {
-        return 17;
+        return Err(Refusal::UnknownClause);
     }
     let begin = entry(ends, k as usize);
     let end = entry(ends, k as usize + 1);
     if begin > end {
-        return 1;
+        return Err(Refusal::IllFormed);
     }
     if end > env.literals {
-        return 1;
+        return Err(Refusal::IllFormed);
     }
-    0
+    Ok((begin as usize, end as usize))
 }
 
 // Hands back clause k, a part of the literal store.
@@ -93,97 +93,90 @@ pub fn clause<'a>(
     lits: &'a [u32],
     ends: &[u32],
     k: u32,
-    status: &mut u32,
-) -> &'a [u32]
-    ensures { (status.new ≡ (clause_outcome env lits.now ends.now k).status) × (result.now ≡ (clause_outcome env lits.now ends.now k).part) }
+) -> Result<&'a [u32], Refusal>
+    ensures number { status result ≡ (clause_outcome env lits.now ends.now k).status }
+    ensures part { IfOk result (λ c. c.now ≡ (clause_outcome env lits.now ends.now k).part) }
 {
-    let number = clause_status(env, lits.len(), ends, k);
-    *status = number;
-    if number != 0 {
-        return clause_part(lits, 0, 0);
-    }
-    let begin = entry(ends, k as usize);
-    let end = entry(ends, k as usize + 1);
-    clause_part(lits, begin as usize, end as usize)
+    let (begin, end) = clause_checks(env, lits.len(), ends, k)?;
+    Ok(&lits[begin..end])
 }
 
-// Whether every byte is 0 or 1.
-fn all_bits(assignment: &[u8]) -> bool
-    ensures { result ≡ all_bits assignment.now }
-{
-    let mut i: usize = 0;
-    while i < assignment.len() {
-        if 1 < assignment[i] {
-            return false;
-        }
-        i += 1;
-    }
-    true
-}
-
-// Whether the bytes are an assignment of that many variables.
+// Whether the bytes are an assignment of that many variables: as many, each 0 or 1.
 pub fn is_assignment(variables: u32, assignment: &[u8]) -> bool
     ensures { result ≡ is_assignment variables assignment.now }
 {
-    if assignment.len() != variables as usize {
-        return false;
-    }
-    all_bits(assignment)
+    assignment.len() == variables as usize && assignment.iter().all(|b| *b <= 1)
 }
 
 // The checks of an assignment, where the clauses can be read.
-fn bytes_status(env: EncoderEnv, lits: &[u32], ends: &[u32], assignment: &[u8]) -> u32
+fn bytes_checks(
+    env: EncoderEnv,
+    lits: &[u32],
+    ends: &[u32],
+    assignment: &[u8],
+) -> Result<(), Refusal>
     requires { readable env lits.now ends.now ≡ true }
-    ensures { result ≡ status_of (bytes_checks env lits.now ends.now assignment.now) }
+    ensures { status result ≡ status_of (bytes_checks env lits.now ends.now assignment.now) }
 {
     if !is_assignment(env.variables, assignment) {
-        return 16;
+        return Err(Refusal::NoAssignment);
     }
     if !satisfies(env, lits, ends, assignment) {
-        return 21;
+        return Err(Refusal::Unsatisfied);
     }
-    0
+    Ok(())
 }
 
 // The checks of a reading.
-fn read_status(env: EncoderEnv, lits: &[u32], ends: &[u32], x: u32, assignment: &[u8]) -> u32
-    ensures { result ≡ status_of (read_checks env lits.now ends.now x assignment.now) }
+fn read_checks(
+    env: EncoderEnv,
+    lits: &[u32],
+    ends: &[u32],
+    x: u32,
+    assignment: &[u8],
+) -> Result<(), Refusal>
+    ensures { status result ≡ status_of (read_checks env lits.now ends.now x assignment.now) }
 {
     if !readable(env, lits, ends) {
-        return 1;
+        return Err(Refusal::IllFormed);
     }
     if x >= env.count {
-        return 8;
+        return Err(Refusal::UnknownSetting);
     }
-    bytes_status(env, lits, ends, assignment)
+    bytes_checks(env, lits, ends, assignment)
 }
 
-// Tests an assignment for many readings: 0 where it satisfies every clause, else 1, 16 or 21.
-pub fn test_assignment(env: EncoderEnv, lits: &[u32], ends: &[u32], assignment: &[u8]) -> u32
-    ensures { result ≡ test_status env lits.now ends.now assignment.now }
+// Tests an assignment for many readings: whether it satisfies every clause.
+pub fn test_assignment(
+    env: EncoderEnv,
+    lits: &[u32],
+    ends: &[u32],
+    assignment: &[u8],
+) -> Result<(), Refusal>
+    ensures { status result ≡ test_status env lits.now ends.now assignment.now }
 {
     if !readable(env, lits, ends) {
-        return 1;
+        return Err(Refusal::IllFormed);
     }
-    bytes_status(env, lits, ends, assignment)
+    bytes_checks(env, lits, ends, assignment)
 }
 
 // The value of setting x under an assignment that was tested. It answers what `get_int_value` does and reads no clause; the stores are
 // those of the test.
-pub fn read_tested(env: EncoderEnv, lits: &[u32], ends: &[u32], x: u32, assignment: &[u8]) -> Answer
+pub fn read_tested(
+    env: EncoderEnv,
+    lits: &[u32],
+    ends: &[u32],
+    x: u32,
+    assignment: &[u8],
+) -> Result<i32, Refusal>
     requires { test_status env lits.now ends.now assignment.now ≡ 0 }
-    ensures { Answers (read_outcome env lits.now ends.now x assignment.now) result lits.now ends.now }
+    ensures { Answers (read_outcome env lits.now ends.now x assignment.now) (reads env result) lits.now ends.now }
 {
     if env.count <= x {
-        return refusal(env, 8);
+        return Err(Refusal::UnknownSetting);
     }
-    let e = env.encodings[x as usize];
-    let value = log_var::get_int_value(e, assignment);
-    Answer {
-        status: 0,
-        env,
-        value,
-    }
+    Ok(log_var::get_int_value(env.encodings[x as usize], assignment))
 }
 
 // The value of setting x under an assignment that satisfies every clause.
@@ -193,12 +186,9 @@ pub fn get_int_value(
     ends: &[u32],
     x: u32,
     assignment: &[u8],
-) -> Answer
-    ensures { Answers (read_outcome env lits.now ends.now x assignment.now) result lits.now ends.now }
+) -> Result<i32, Refusal>
+    ensures { Answers (read_outcome env lits.now ends.now x assignment.now) (reads env result) lits.now ends.now }
 {
-    let status = read_status(env, lits, ends, x, assignment);
-    if status != 0 {
-        return refusal(env, status);
-    }
+    read_checks(env, lits, ends, x, assignment)?;
     read_tested(env, lits, ends, x, assignment)
 }

@@ -148,7 +148,12 @@ fn weighted_comparison(
         vars: s.vars,
         used: s.used,
     };
-    push_comparison(&mut set, is_ne, s.positive.as_slice(), s.negative.as_slice());
+    push_comparison(
+        &mut set,
+        is_ne,
+        s.positive.as_slice(),
+        s.negative.as_slice(),
+    );
     RuleCounts {
         vars: set.vars,
         used: set.used,

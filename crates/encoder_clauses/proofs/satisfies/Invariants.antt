@@ -7,7 +7,4 @@ use Rattle.encoder_clauses.proofs.satisfies.Given as goal
 
 abbrev pub invariant-loop-k : goal.invariant-loop-k
 invariant-loop-k l =
-    (l.k ≤ l.clauses) × (all_hold l.assignment (clauses_from l.lits l.ends 0 l.clauses) ≡ all_hold l.assignment (clauses_from l.lits l.ends l.k (l.clauses - l.k)))
-
-abbrev pub decreases-loop-k : goal.decreases-loop-k
-decreases-loop-k l = l.clauses - l.k
+    (l.k ≤ l.k-end) × (all_hold l.assignment (clauses_from l.lits l.ends 0 l.k-end) ≡ all_hold l.assignment (clauses_from l.lits l.ends l.k (l.k-end - l.k)))

@@ -23,7 +23,7 @@ tested c = c.coef_fits.ensures ∙ ap (coef_fits) (to_z-of_z w32 _ (record { sfi
 
 pub loop-i-init : goal.loop-i-init
 unfolding all_below
-loop-i-init c = (omega arith, refl)
+loop-i-init c = refl
 
 pub returns-then-not-coef_fits : goal.returns-then-not-coef_fits
 returns-then-not-coef_fits c =
@@ -34,4 +34,4 @@ returns-then-not-coef_fits c =
 pub loop-i-preserved : goal.loop-i-preserved
 loop-i-preserved c =
     let l = c.loop-i in
-    (omega arith, all_more (fits c.args.terms.now) l.i l.invariant.1 (sym (tested (goal.at.loop-i-preserved c).After-coef_fits) ∙ c.if-not-coef_fits.false))
+    all_more (fits c.args.terms.now) l.i l.invariant (sym (tested (goal.at.loop-i-preserved c).After-coef_fits) ∙ c.if-not-coef_fits.false)

@@ -23,7 +23,7 @@ tested c = c.setting_known.ensures ∙ ap (setting_known c.args.count) (to_z-of_
 
 pub loop-i-init : goal.loop-i-init
 unfolding all_below
-loop-i-init c = (omega arith, refl)
+loop-i-init c = refl
 
 pub returns-then-not-setting_known : goal.returns-then-not-setting_known
 returns-then-not-setting_known c =
@@ -34,4 +34,4 @@ returns-then-not-setting_known c =
 pub loop-i-preserved : goal.loop-i-preserved
 loop-i-preserved c =
     let l = c.loop-i in
-    (omega arith, all_more (known c.args.count c.args.terms.now) l.i l.invariant.1 (sym (tested (goal.at.loop-i-preserved c).After-setting_known) ∙ c.if-not-setting_known.false))
+    all_more (known c.args.count c.args.terms.now) l.i l.invariant (sym (tested (goal.at.loop-i-preserved c).After-setting_known) ∙ c.if-not-setting_known.false)

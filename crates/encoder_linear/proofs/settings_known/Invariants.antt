@@ -2,9 +2,8 @@
 use mathlib.Core.Path.{◌≡◌}
 use mathlib.Core.Bool.{Bool, true}
 use mathlib.Core.List.{List}
-use Prim.Native.Nat.{◌-◌, ◌/◌, ◌≤◌, ℕ}
+use Prim.Native.Nat.{ℕ}
 use lib.IntN.{ℤ}
-use lib.ListN.{length}
 use Rattle.encoder_env.specs.WellFormed.{all_below}
 use Rattle.encoder_linear.specs.Sums.{setting_at, setting_known}
 use Rattle.encoder_linear.proofs.settings_known.Given as goal
@@ -13,7 +12,4 @@ abbrev known : ℕ → List ℤ → ℕ → Bool
 known count terms i = setting_known count (setting_at terms i)
 
 abbrev pub invariant-loop-i : goal.invariant-loop-i
-invariant-loop-i l = (l.i ≤ length l.terms / 2) × (all_below l.i (known l.count l.terms) ≡ true)
-
-abbrev pub decreases-loop-i : goal.decreases-loop-i
-decreases-loop-i l = length l.terms / 2 - l.i
+invariant-loop-i l = all_below l.i (known l.count l.terms) ≡ true

@@ -1,5 +1,5 @@
 -- `encoder_linear::settings_rise` meets its contract.
-use mathlib.Core.Path.{refl, sym}
+use mathlib.Core.Path.{◌≡◌, refl, sym}
 use mathlib.Core.Bool.{Bool}
 use mathlib.Core.List.{List}
 use Prim.Native.Nat.{◌+◌, ◌-◌, ◌/◌, ℕ}
@@ -24,15 +24,26 @@ loop-i-init c = (omega arith, refl)
 pub returns-then-b-a : goal.returns-then-b-a
 returns-then-b-a c =
     let terms : List ℤ = c.args.terms.now in
-    let i = c.loop-i.i in
+    let i = c.loop-i.i - 1 in
+    let next : i + 1 ≡ c.loop-i.i = omega arith in
     let f : SFits w32 (setting_at terms i) = record { sfits = c.a-1.given } in
-    let g : SFits w32 (setting_at terms (i + 1)) = record { sfits = c.b-1.given } in
-    sym (all_fail (rises terms) (length terms / 2 - 1) i (omega arith) (below_no f g c.if-b-a.true))
+    let g : SFits w32 (setting_at terms (i + 1)) = rw next (record { sfits = c.b-1.given }) in
+    sym (all_fail (rises terms) (length terms / 2 - 1) i (omega arith) (below_no f g (rw next c.if-b-a.true)))
 
 pub loop-i-preserved : goal.loop-i-preserved
 loop-i-preserved c =
     let terms : List ℤ = c.args.terms.now in
     let l = c.loop-i in
-    let f : SFits w32 (setting_at terms l.i) = record { sfits = c.a-1.given } in
-    let g : SFits w32 (setting_at terms (l.i + 1)) = record { sfits = c.b-1.given } in
-    (omega arith, all_more (rises terms) l.i l.invariant.1 (below_yes f g c.if-b-a.false))
+    let i = l.i - 1 in
+    let next : i + 1 ≡ l.i = omega arith in
+    let last : l.i + 1 - 1 ≡ i + 1 = omega arith in
+    let f : SFits w32 (setting_at terms i) = record { sfits = c.a-1.given } in
+    let g : SFits w32 (setting_at terms (i + 1)) = rw next (record { sfits = c.b-1.given }) in
+    (omega arith, rw last (all_more (rises terms) i l.invariant.1 (below_yes f g (rw next c.if-b-a.false))))
+
+pub returns : goal.returns
+returns c =
+    let terms : List ℤ = c.args.terms.now in
+    let l = c.loop-i in
+    let e : length terms / 2 - 1 ≡ l.i - 1 = omega arith in
+    rw e (sym l.invariant.1)

@@ -14,7 +14,4 @@ abbrev rises : List ℤ → ℕ → Bool
 rises terms i = lt_z (setting_at terms i) (setting_at terms (i + 1))
 
 abbrev pub invariant-loop-i : goal.invariant-loop-i
-invariant-loop-i l = (l.i ≤ length l.terms / 2 - 1) × (all_below l.i (rises l.terms) ≡ true)
-
-abbrev pub decreases-loop-i : goal.decreases-loop-i
-decreases-loop-i l = length l.terms / 2 - l.i
+invariant-loop-i l = (l.i - 1 ≤ length l.terms / 2 - 1) × (all_below (l.i - 1) (rises l.terms) ≡ true)

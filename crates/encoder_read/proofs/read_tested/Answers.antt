@@ -13,8 +13,8 @@ job c = let a = c.args in tested_job a.env a.lits.now a.ends.now a.x a.assignmen
 pub bounds-env-x : goal.bounds-env-x
 bounds-env-x c = omega (arith, c.if-env-x.false, (job (goal.at.bounds-env-x c).Start).count_max)
 
-pub get_int_value-value-requires : goal.get_int_value-value-requires
-get_int_value-value-requires c =
+pub get_int_value-requires : goal.get_int_value-requires
+get_int_value-requires c =
     let a = c.args in
-    let u = in_use a.env (length a.lits.now) (length a.ends.now) a.x (job (goal.at.get_int_value-value-requires c).Start) c.if-env-x.false in
+    let u = in_use a.env (length a.lits.now) (length a.ends.now) a.x (job (goal.at.get_int_value-requires c).Start) c.if-env-x.false in
     (u.len_max, u.offset_up, u.offset_down)
