@@ -1,6 +1,6 @@
 -- A rule measured: too tall, or of a size.
 use Prim.Native.Nat.{◌*◌, ◌<◌, ◌≤◌, ℕ}
-use borrow.Author.Tests.{le-ltb, lt-ltb}
+use borrow.Author.Tests.{le-ltb}
 use mathlib.Core.Bool.{false, true}
 use mathlib.Core.List.{List}
 use mathlib.Core.Path.{◌∙◌, ◌≡◌, ap, subst, sym}
@@ -13,9 +13,6 @@ use Rattle.eq_size.specs.Sized.{Sized}
 use Rattle.terms_size.specs.Measured.{Measured, SizedBy}
 
 module _ (n : ℕ) (rs : List Reached) (size : Size) where
-  pub measured_tall : 12 < greatest_height rs → Measured n rs size None
-  measured_tall h = lt-ltb 12 (greatest_height rs) h
-
   pub measured_fits : (r : RuleCounts) → greatest_height rs ≤ 12 → Sized size r → r.vars ≤ 1000 * n → r.used.clauses ≤ 34000000 * n → r.used.lits ≤ 504000000 * n
       → Measured n rs size (Some r)
   measured_fits r h s v c l = (le-ltb 12 (greatest_height rs) h, record { sized = s; few_vars = v; few_clauses = c; few_lits = l })

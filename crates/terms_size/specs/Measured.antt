@@ -1,5 +1,5 @@
 -- The size of a rule as the code holds it: where no column reached is too tall.
-use Rattle.std.specs.Prelude.{◌*◌, ◌≤◌, ℕ, length, Bool, false, true, List, ◌≡◌, Option, Some, None}
+use Rattle.std.specs.Prelude.{◌*◌, ◌≤◌, ℕ, length, take, Bool, false, true, List, ◌≡◌, Option, Some, None}
 use Rattle.sat.specs.Size.{Size, size_by}
 use Rattle.norm_csp.specs.NormOp.{NormOp, ge, ne}
 use Rattle.log_encoding.specs.AdderSize.{Reached, greatest_height, input_shapes, reached, too_tall}
@@ -29,9 +29,13 @@ compared_op false = ge
 abbrev pub terms_size : NormOp → List WeightedShape → ℕ → ℕ → Size
 terms_size op ps a b = size_by (linear_vars op ps a b) (λ weigh. linear_count weigh op ps a b)
 
--- the columns with the bits of k are those reached
+-- what columns of so many literals reach with the bits of k
+abbrev pub reached_by : List ℕ → ℕ → List Reached
+reached_by hs k = reached (input_shapes (length hs) 0 hs k) 0
+
+-- the columns in use with the bits of k are those reached
 pub record ColumnsReach (rs : List Reached) (k : ℕ) (c : Columns) : Type 0 where
-  pub reach : reached (input_shapes c.counts.width 0 c.counts.counts k) 0 ≡ rs
+  pub reach : reached_by (take c.counts.width c.counts.counts) k ≡ rs
   pub narrow : c.counts.width ≤ 25
   pub long : length c.counts.counts ≡ 32
   pub height_is : c.height ≡ greatest_height rs
