@@ -1,7 +1,6 @@
 -- A rule measured: too tall, or of a size.
-use Prim.Native.Nat.{◌*◌, ◌<◌, ◌≤◌, ℕ}
+use Prim.Native.Nat.{◌*◌, ◌≤◌, ℕ}
 use borrow.Author.Tests.{le-ltb}
-use mathlib.Core.Bool.{false, true}
 use mathlib.Core.List.{List}
 use mathlib.Core.Path.{◌∙◌, ◌≡◌, ap, subst, sym}
 use native.Mathlib.Omega.{arith}

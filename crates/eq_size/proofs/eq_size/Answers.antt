@@ -1,5 +1,4 @@
 -- `eq_size::eq_size` meets its contract.
-use mathlib.Core.Path.{sym}
 use native.Mathlib.Omega.{arith}
 use Rattle.eq_size.proofs.Columns.{columns_dead, columns_start, columns_turn, others_at}
 use Rattle.eq_size.proofs.eq_size.Goals as goal

@@ -1,7 +1,7 @@
 -- `log_counts::counts_of` meets its contract.
 use mathlib.Core.List.{List}
 use mathlib.Core.Path.{◌∙◌, sym}
-use Prim.Native.Nat.{ℕ, ◌+◌, ◌*◌}
+use Prim.Native.Nat.{ℕ}
 use native.Mathlib.Omega.{arith}
 use lib.ListN.{get_or, replicate}
 use Rattle.log_encoding.specs.AdderSize.{push_scaled_counts}

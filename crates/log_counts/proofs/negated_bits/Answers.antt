@@ -3,7 +3,7 @@ use mathlib.Core.Path.{◌≡◌, ap}
 use mathlib.Core.Bool.{cond}
 use Prim.Native.Nat.{ℕ, ◌+◌, ◌-◌, ◌*◌, ◌≤◌}
 use native.Mathlib.Omega.{arith}
-use lib.ListN.{get_or, length}
+use lib.ListN.{get_or}
 use Rattle.arithmetic.specs.Bits.{shl}
 use Rattle.log_encoding.specs.LinearSize.{negated_bits}
 use Rattle.log_counts.specs.Counted.{no_shape}

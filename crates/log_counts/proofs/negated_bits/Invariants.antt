@@ -1,6 +1,6 @@
 -- `log_counts::negated_bits` meets its contract.
 use mathlib.Core.Path.{◌≡◌}
-use Prim.Native.Nat.{◌+◌, ◌-◌, ◌*◌, ◌≤◌}
+use Prim.Native.Nat.{◌+◌, ◌*◌, ◌≤◌}
 use lib.ListN.{drop}
 use Rattle.log_encoding.specs.LinearSize.{negated_bits}
 use Rattle.log_counts.specs.Counted.{shapes_of}

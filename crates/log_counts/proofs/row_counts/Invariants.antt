@@ -1,5 +1,5 @@
 -- `log_counts::row_counts` meets its contract.
-use Prim.Native.Nat.{◌-◌, ◌*◌, ◌≤◌}
+use Prim.Native.Nat.{◌-◌, ◌*◌}
 use Rattle.log_encoding.specs.MulSize.{rows_counts}
 use Rattle.log_counts.proofs.Growing.{Growing}
 use Rattle.log_counts.proofs.row_counts.Given as goal

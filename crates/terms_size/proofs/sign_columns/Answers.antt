@@ -1,6 +1,4 @@
 -- `terms_size::sign_columns` meets its contract.
-use Prim.Native.Nat.{◌≤◌}
-use lib.ListN.{length}
 use mathlib.Core.List.{List}
 use mathlib.Core.Path.{◌∙◌, ap}
 use native.Mathlib.Omega.{arith}

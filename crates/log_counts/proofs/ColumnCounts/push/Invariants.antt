@@ -1,5 +1,5 @@
 -- `log_counts::ColumnCounts::push` meets its contract.
-use Prim.Native.Nat.{◌-◌, ◌≤◌}
+use Prim.Native.Nat.{◌-◌}
 use Rattle.log_counts.proofs.Pushing.{Pushing}
 use Rattle.log_counts.proofs.ColumnCounts.push.Given as goal
 

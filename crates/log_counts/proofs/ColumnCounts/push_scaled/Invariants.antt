@@ -1,5 +1,5 @@
 -- `log_counts::ColumnCounts::push_scaled` meets its contract.
-use Prim.Native.Nat.{◌+◌, ◌-◌, ◌*◌, ◌≤◌, ◌<◌}
+use Prim.Native.Nat.{◌+◌, ◌-◌, ◌*◌, ◌<◌}
 use Rattle.arithmetic.specs.Bits.{shl}
 use Rattle.log_encoding.specs.AdderSize.{push_scaled_counts}
 use Rattle.log_counts.proofs.Growing.{Growing}

@@ -1,6 +1,6 @@
 -- `log_counts::TermShape::all_bits` meets its contract.
 use mathlib.Core.Path.{◌≡◌}
-use Prim.Native.Nat.{◌+◌, ◌-◌, ◌≤◌}
+use Prim.Native.Nat.{◌+◌}
 use Rattle.arithmetic.specs.Bits.{shl}
 use Rattle.log_counts.proofs.TermShape.all_bits.Given as goal
 
