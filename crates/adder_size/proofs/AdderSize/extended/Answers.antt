@@ -1,6 +1,6 @@
--- `adder_size::extended` meets its contract.
+-- `adder_size::AdderSize::extended` meets its contract.
 use Rattle.adder_size.proofs.Left.{past_end, past_turn}
-use Rattle.adder_size.proofs.extended.Goals as goal
+use Rattle.adder_size.proofs.AdderSize.extended.Goals as goal
 
 pub loop-s-preserved : goal.loop-s-preserved
 loop-s-preserved c = past_turn _ c.loop-s.invariant c.with_column-s.result c.loop-s-test.true c.with_column-s.ensures

@@ -1,6 +1,6 @@
--- `adder_size::extended` meets its contract.
+-- `adder_size::AdderSize::extended` meets its contract.
 use Rattle.adder_size.proofs.Left.{PastLeft}
-use Rattle.adder_size.proofs.extended.Given as goal
+use Rattle.adder_size.proofs.AdderSize.extended.Given as goal
 
 abbrev pub invariant-loop-s : goal.invariant-loop-s
 invariant-loop-s l = PastLeft l.initial.s l.s
