@@ -3,7 +3,8 @@ use Prim.Native.Nat.{◌%◌, ◌*◌, ◌+◌, ◌/◌, ◌<◌, ◌^◌, ◌�
 use borrow.Author.Tests.{eqb-false, eqb-true}
 use mathlib.Core.Bool.{Bool, cond, false, true}
 use mathlib.Core.Path.{◌≡◌, refl}
-use native.Mathlib.Nat.{pow-suc}
+use native.Mathlib.Nat.{pow-le-pow_right, pow-suc}
+use Rattle.std.proofs.Common.{lit<}
 use native.Mathlib.Omega.{arith}
 use Rattle.arithmetic.specs.Bits.{bit_length, bit_length_within, odd, shl}
 
@@ -60,10 +61,15 @@ within_least (suc f) (suc k) (suc n) h = omega (arith, within_least f (suc k / 2
 pub bit_length_least : (k n : ℕ) → k < shl n 1 → bit_length k ≤ n
 bit_length_least k n h = within_least 32 k n h
 
+-- the one m for which k lies between 2 ^ m and its half
+pub bit_length_by : (k m : ℕ) → k < 4294967296 → k < 2 ^ m → 2 ^ m ≤ 2 * k + 1 → bit_length k ≡ m
+bit_length_by k m h below half =
+    let n = bit_length k in
+    let most : n ≤ m = bit_length_least k m (omega (arith, shl_power m)) in
+    let least : ¬ (n < m) = λ less.
+    omega (arith, half, bit_length_fits k h, shl_power n, shl_power (suc n), pow-le-pow_right {n = 2} (lit< tt) less) in
+    omega arith
+
 pub within_zero : (f : ℕ) → bit_length_within f 0 ≡ 0
 within_zero zero = refl
 within_zero (suc f) = refl
-
-pub within_step : (f k : ℕ) → 0 < k → bit_length_within (suc f) k ≡ suc (bit_length_within f (k / 2))
-within_step f zero p = absurd (omega arith)
-within_step f (suc k) p = refl

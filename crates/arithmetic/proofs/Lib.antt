@@ -2,4 +2,3 @@ pub mod Tests
 pub mod Integers
 pub mod Bits
 pub mod Offset
-pub mod Parts

@@ -11,26 +11,14 @@ ghost use Rattle.arithmetic.specs.Offset.{offset_of, code, value};
 pub fn bit_length(k: u32) -> u32
     ensures { result ≡ bit_length k }
 {
-    let mut x: u32 = k;
-    let mut n: u32 = 0;
-    while n < 32 {
-        if x == 0 {
-            return n;
-        }
-        x = x / 2;
-        n += 1;
-    }
-    n
+    u32::BITS - k.leading_zeros()
 }
 
 // The offset of a setting whose lowest value is `low`.
 pub fn offset_of(low: i32) -> i32
     ensures { result ≡ offset_of low }
 {
-    if low < 0 {
-        return low;
-    }
-    0
+    low.min(0)
 }
 
 // The code of a value that is not below the offset.
@@ -54,10 +42,7 @@ pub fn up(z: i32) -> u32
     requires { up z < 1073741824 }
     ensures { result ≡ up z }
 {
-    if z < 0 {
-        return 0;
-    }
-    code(0, z)
+    z.max(0) as u32
 }
 
 // The part of a number below 0.
@@ -65,10 +50,7 @@ pub fn down(z: i32) -> u32
     requires { down z < 1073741824 }
     ensures { result ≡ down z }
 {
-    if z < 0 {
-        return code(z, 0);
-    }
-    0
+    (-z).max(0) as u32
 }
 
 // How far a number is from 0.
@@ -76,8 +58,5 @@ pub fn magnitude(z: i32) -> u32
     requires { (up z < 1073741824) × (down z < 1073741824) }
     ensures { result ≡ up z + down z }
 {
-    if z < 0 {
-        return down(z);
-    }
-    up(z)
+    z.unsigned_abs()
 }

@@ -1,7 +1,7 @@
 -- What adding clauses leaves in the stores: one list after another; a loop that adds.
 use mathlib.Core.Path.{◌≡◌, refl, ap, subst, sym, ◌∙◌}
 use mathlib.Core.List.{List, [], ◌∷◌, ◌++◌, map, map-append}
-use Prim.Native.Nat.{ℕ, suc, ◌+◌, ◌≤◌, ◌<◌}
+use Prim.Native.Nat.{ℕ, suc, ◌+◌, ◌<◌}
 use native.Mathlib.Nat.{add-zero}
 use native.Mathlib.Numerals.{add-one}
 use native.Mathlib.Omega.{arith}
@@ -11,8 +11,8 @@ use Rattle.sat.specs.Size.{entries}
 use Rattle.sat.proofs.Size.{entries_append}
 use Rattle.clause_set.specs.declared.Counts.{Counts}
 use Rattle.sat.specs.declared.Lit.{Lit}
-use Rattle.clause_set.specs.declared.Clause.{Clause}
-use Rattle.clause_set.specs.Clause.{clause_lits}
+use Rattle.clause_set.specs.declared.ClauseSet.{ClauseSet}
+use Rattle.std.proofs.Common.{MutBor}
 use Rattle.sat.specs.LitArray.{num}
 use Rattle.clause_set.specs.Stores.{Stores, stores, after, add_clause, add_clauses, Fits}
 
@@ -27,15 +27,16 @@ sets_more l i c k h =
     let e : length (take k c) ≡ k = length-take-le k c (omega arith) in
     sym (rw (add-one, take-suc c k 0 h, sets_append, e))
 
--- the same for a clause as the code holds it
+-- the same for a slice of literals
 pub lits_more : (l : List ℕ) (i : ℕ) (c : List Lit) (k : ℕ) → k < length c
     → set (sets l i (map num (take k c))) (i + k) (get_or c k (record { 0 = 0 })).0 ≡ sets l i (map num (take (k + 1) c))
 lits_more l i c k h =
     let e : length (map num (take k c)) ≡ k = length-map (take k c) num ∙ length-take-le k c (omega arith) in
     sym (rw (add-one, take-suc c k (record { 0 = 0 }) h, map-append, sets_append, e))
 
-pub clause_size : (c : Clause) → length c.lits ≡ 32 → c.len ≤ 32 → length (clause_lits c) ≡ c.len
-clause_size c e h = length-map (take c.len c.lits) num ∙ length-take-le c.len c.lits (omega arith)
+-- a set of clauses with another reference to its literals
+pub with_lits : (s t : ClauseSet) (a : MutBor (List ℕ)) → t ≡ record s { lits = t.lits } → record t { lits = a } ≡ record s { lits = a }
+with_lits s t a e = ap (λ (u : ClauseSet). record u { lits = a }) e
 
 -- Clauses one after the other ----------------------------------------------------------------------------------------
 

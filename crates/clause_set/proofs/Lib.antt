@@ -2,3 +2,4 @@ pub mod Adding
 pub mod Bytes
 pub mod ReadBack
 pub mod Tails
+pub mod Writing

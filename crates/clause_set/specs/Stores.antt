@@ -3,7 +3,9 @@
 use Rattle.std.specs.Prelude.{◌+◌, ◌-◌, ◌<◌, ◌^◌, ◌≤◌, suc, zero, ℕ, drop, get_or, length, set, take, List, [], ◌∷◌, ◌⊎◌, ◌≡◌}
 use Rattle.std.proofs.lemmas.List.Edits.{sets}
 use Rattle.sat.specs.Clause.{Clauses}
+use Rattle.sat.specs.Encoded.{EncodedRule}
 use Rattle.sat.specs.Size.{entries}
+use Rattle.clause_set.specs.declared.ClauseSet.{ClauseSet}
 use Rattle.clause_set.specs.declared.Counts.{Counts}
 
 -- literals, clause ends, and how many literals and clauses are in use
@@ -20,6 +22,10 @@ stores lits ends used count = record { lits = lits; ends = ends; used = used; co
 abbrev pub after : List ℕ → List ℕ → Counts → Stores
 after lits ends at = stores lits ends at.lits at.clauses
 
+-- those of a set of clauses
+abbrev pub stores_of : ClauseSet → Stores
+stores_of s = after s.lits.now s.ends.now s.used
+
 -- one clause: its literals behind those in use, its end behind the ends in use; ends count from b
 unfoldable pub add_clause : ℕ → List ℕ → Stores → Stores
 add_clause b c s =
@@ -33,6 +39,26 @@ add_clause b c s =
 abbrev pub add_clauses : ℕ → Clauses → Stores → Stores
 add_clauses b [] s = s
 add_clauses b (c ∷ cs) s = add_clauses b cs (add_clause b c s)
+
+-- The set t is s with the clauses behind its own and that many variables: the stores lent are the same, and hold them.
+pub record Wrote (s : ClauseSet) (vars : ℕ) (cs : Clauses) (t : ClauseSet) : Type 0 where
+  pub same_lits : t.lits.ghost_name ≡ s.lits.ghost_name
+  pub same_ends : t.ends.ghost_name ≡ s.ends.ghost_name
+  pub same_base : t.base ≡ s.base
+  pub vars_are : t.vars ≡ vars
+  pub stores_are : stores_of t ≡ add_clauses s.base cs (stores_of s)
+
+-- with no new variable
+abbrev pub Added : ClauseSet → Clauses → ClauseSet → Type 0
+Added s = Wrote s s.vars
+
+-- the clauses and the variables of a rule
+abbrev pub AddedRule : ClauseSet → EncodedRule → ClauseSet → Type 0
+AddedRule s rule = Wrote s rule.vars rule.clauses
+
+-- fewer than m clauses, and ends below m
+abbrev pub Below : ℕ → ClauseSet → Type 0
+Below m s = (s.base + s.used.lits < m) × (s.used.clauses < m)
 
 -- the counts after the clauses, and the ends, which count from b, are numbers of a u32
 pub record Fits (b : ℕ) (at : Counts) (cs : Clauses) : Type 0 where

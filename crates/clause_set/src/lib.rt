@@ -2,18 +2,63 @@
 // it and stores only what lies inside a store, so that a call that is lent nothing only counts.
 #![tactic(auto)]
 
-ghost use Rattle.std.specs.Prelude.{◌≡◌, [], ◌∷◌, ◌++◌, ◌+◌, ◌≤◌, ◌<◌, get_or, length, set};
+ghost use Rattle.std.specs.Prelude.{◌≡◌, false, [], ◌∷◌, ◌++◌, ◌+◌, ◌^◌, ◌≤◌, ◌<◌, get_or, length, map, set};
+ghost use Rattle.sat.specs.Lit.{as_lit};
+ghost use Rattle.sat.specs.LitArray.{num};
 ghost use Rattle.clause_set.specs.Bytes.{clause_holds, lit_holds};
 ghost use Rattle.clause_set.specs.Clause.{clause_lits};
-ghost use Rattle.clause_set.specs.Stores.{Fits, Within, add_clauses, after, part};
+ghost use Rattle.clause_set.specs.Stores.{Added, Fits, Within, Wrote, add_clauses, after, part};
 
-use sat::Lit;
+use sat::{Lit, Var};
 
 // How much of the two stores is in use.
 #[derive(Clone, Copy)]
 pub struct Counts {
     pub clauses: usize,
     pub lits: usize,
+}
+
+// The two lent stores and what is counted. Ends count from `base`, where a lent part of the literal store begins.
+#[derive(Drop)]
+pub struct ClauseSet<'a> {
+    pub lits: &'a mut [u32],
+    pub ends: &'a mut [u32],
+    pub base: u32,
+    pub vars: u32,
+    pub used: Counts,
+}
+
+impl ClauseSet<'_> {
+    // The plain literal of a new variable.
+    pub fn new_lit(&mut self) -> Lit
+        requires { self.old.vars < 2 ^ 30 }
+        ensures new_lit { result.0 ≡ as_lit self.old.vars false }
+        ensures wrote { Wrote self.old (self.old.vars + 1) [] self.new }
+    {
+        let v = Var(self.vars);
+        self.vars += 1;
+        v.as_lit(false)
+    }
+
+    // Adds a clause.
+    pub fn push(&mut self, clause: &[Lit])
+        requires fits { Fits self.old.base self.old.used (map num clause.now ∷ []) }
+        ensures added { Added self.old (map num clause.now ∷ []) self.new }
+        ensures lits { self.new.used.lits ≡ self.old.used.lits + length clause.now }
+        ensures clauses { self.new.used.clauses ≡ self.old.used.clauses + 1 }
+    {
+        let from = self.used.lits;
+        let n = clause.len();
+        for (i, l) in clause.iter().enumerate() {
+            put(self.lits, from + i, l.0);
+        }
+        let k = self.used.clauses;
+        put(self.ends, k + 1, self.base + (from + n) as u32);
+        self.used = Counts {
+            clauses: k + 1,
+            lits: from + n,
+        };
+    }
 }
 
 // A clause that is put together literal by literal.
@@ -28,42 +73,34 @@ impl Clause {
         ensures { (result.len ≡ 0) × (clause_lits result ≡ []) }
     {
         let lits = [Lit(0); 32];
-        Clause { lits: lits, len: 0 }
+        Clause { lits, len: 0 }
     }
 
     // One literal more.
-    pub fn with(self, l: Lit) -> Clause
-        requires { self.len < 32 }
-        ensures { (result.len ≡ self.len + 1) × (clause_lits result ≡ clause_lits self ++ l.0 ∷ []) }
+    pub fn push(&mut self, l: Lit)
+        requires { self.old.len < 32 }
+        ensures { (self.new.len ≡ self.old.len + 1) × (clause_lits self.new ≡ clause_lits self.old ++ l.0 ∷ []) }
     {
-        let mut lits = self.lits;
         let at = self.len;
-        lits[at] = l;
-        Clause {
-            lits: lits,
-            len: at + 1,
+        self.lits[at] = l;
+        self.len += 1;
+    }
+
+    // The literals of `more` behind it.
+    pub fn extend(&mut self, more: &[Lit])
+        requires { self.old.len + length more.now ≤ 32 }
+        ensures { (self.new.len ≡ self.old.len + length more.now) × (clause_lits self.new ≡ clause_lits self.old ++ map num more.now) }
+    {
+        for l in more {
+            self.push(*l);
         }
     }
 
-    pub fn one(a: Lit) -> Clause
-        ensures { (result.len ≡ 1) × (clause_lits result ≡ a.0 ∷ []) }
+    pub fn as_slice(&self) -> &[Lit]
+        requires { self.now.len ≤ 32 }
+        ensures { map num result.now ≡ clause_lits self.now }
     {
-        let none = Clause::empty();
-        none.with(a)
-    }
-
-    pub fn two(a: Lit, b: Lit) -> Clause
-        ensures { (result.len ≡ 2) × (clause_lits result ≡ a.0 ∷ b.0 ∷ []) }
-    {
-        let first = Clause::one(a);
-        first.with(b)
-    }
-
-    pub fn three(a: Lit, b: Lit, c: Lit) -> Clause
-        ensures { (result.len ≡ 3) × (clause_lits result ≡ a.0 ∷ b.0 ∷ c.0 ∷ []) }
-    {
-        let first = Clause::two(a, b);
-        first.with(c)
+        &self.lits[..self.len]
     }
 }
 
@@ -80,37 +117,30 @@ pub fn put(store: &mut [u32], i: usize, x: u32)
 pub fn entry(store: &[u32], i: usize) -> u32
     ensures { result ≡ get_or store.now i 0 }
 {
-    if i < store.len() { store[i] } else { 0 }
+    store.get(i).copied().unwrap_or(0)
 }
 
 // Where a free tail begins that is lent on: past a store's end nothing is lent.
 pub fn within(n: usize, long: usize) -> usize
     ensures { (result ≤ long) × Within n long result }
 {
-    if n <= long { n } else { long }
+    n.min(long)
 }
 
-// Adds a clause at the counts; `base` is where the lent part of the literal store begins.
-pub fn push(lits: &mut [u32], ends: &mut [u32], c: Clause, base: u32, at: Counts) -> Counts
-    requires len_bound { c.len ≤ 32 }
-    requires fits { Fits base at (clause_lits c ∷ []) }
-    ensures { after lits.new ends.new result ≡ add_clauses base (clause_lits c ∷ []) (after lits.old ends.old at) }
+// Adds a clause to stores that are no set yet, at the counts.
+pub fn push(lits: &mut [u32], ends: &mut [u32], clause: &[Lit], base: u32, at: Counts) -> Counts
+    requires fits { Fits base at (map num clause.now ∷ []) }
+    ensures { after lits.new ends.new result ≡ add_clauses base (map num clause.now ∷ []) (after lits.old ends.old at) }
 {
-    let clause = c.lits;
-    let n = c.len;
-    let from = at.lits;
-    let k = at.clauses;
-    let mut i: usize = 0;
-    while i < n {
-        let l = clause[i];
-        put(lits, from + i, l.0);
-        i += 1;
-    }
-    put(ends, k + 1, base + (from + n) as u32);
-    Counts {
-        clauses: k + 1,
-        lits: from + n,
-    }
+    let mut set = ClauseSet {
+        lits,
+        ends,
+        base,
+        vars: 0,
+        used: at,
+    };
+    set.push(clause);
+    set.used
 }
 
 // A clause, handed back as the part of the literal store from the end before it to its own.
@@ -141,15 +171,7 @@ pub fn holds(l: Lit, assignment: &[u8]) -> bool
 pub fn evaluate(clause: &[u32], assignment: &[u8]) -> bool
     ensures { result ≡ clause_holds assignment.now clause.now }
 {
-    let mut i: usize = 0;
-    while i < clause.len() {
-        let l = Lit(clause[i]);
-        if holds(l, assignment) {
-            return true;
-        }
-        i += 1;
-    }
-    false
+    clause.iter().any(|l| holds(Lit(*l), assignment))
 }
 
 // Whether the clause from `begin` to `end` of the literal store holds.

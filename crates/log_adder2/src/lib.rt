@@ -12,7 +12,7 @@ ghost use Rattle.log_encoding.specs.AdderSize.{eq_reached, greatest_height, too_
 ghost use Rattle.log_adder2.specs.EqState.{CarriesOrdered, EqAdded, EqColumnReady, EqFits, Wrote, carries, carry_of, columns_clauses, eq_carry_count, eq_column_clauses, eq_output, next_state, no_vars, target_bit, with_carry};
 ghost use Rattle.log_adder2.specs.declared.Column.TheVariants.{Carry, Dead};
 
-use clause_set::{Clause, Counts};
+use clause_set::Counts;
 use log_adder::{ColumnInfo, VarRange, higher};
 use sat::{Lit, Var};
 
@@ -77,11 +77,9 @@ fn push_ordering(lits: &mut [u32], ends: &mut [u32], first: Var, count: u32, at:
     let mut v = first.0;
     let mut n = count;
     while 1 < n {
-        let here = Var(v);
-        let next = Var(v + 1);
-        let lit = next.as_lit(false);
-        let c = Clause::two(here.as_lit(false), lit.negated());
-        used = clause_set::push(lits, ends, c, 0, used);
+        let here = Var(v).as_lit(false);
+        let next = Var(v + 1).as_lit(false);
+        used = clause_set::push(lits, ends, &[here, !next], 0, used);
         v += 1;
         n -= 1;
     }
@@ -372,7 +370,7 @@ pub fn push_returned_set(
     ensures { after lits.new ends.new result ≡ add_clauses 0 (returned_set (eq_output cols counts g).returned) (after lits.old ends.old at) }
 {
     let Column::Carry(first, n) = carry else {
-        return clause_set::push(lits, ends, Clause::empty(), 0, at);
+        return clause_set::push(lits, ends, &[], 0, at);
     };
     add_eq_columns(
         lits,

@@ -100,7 +100,7 @@ pub fn negate_all(lits: [Lit; 32], n: usize) -> [Lit; 32]
     let mut i: usize = 0;
     while i < n {
         let l = lits[i];
-        out[i] = l.negated();
+        out[i] = !l;
         i += 1;
     }
     out

@@ -1,3 +1,2 @@
-pub mod Adding
-pub mod Literals
 pub mod Comparing
+pub mod Literals

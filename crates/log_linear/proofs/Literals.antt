@@ -1,7 +1,7 @@
 -- The first n elements of an array, from a place on.
 use mathlib.Core.Path.{◌≡◌, ◌∙◌, refl}
 use mathlib.Core.List.{List, [], ◌∷◌, map}
-use Prim.Native.Nat.{ℕ, zero, suc, ◌+◌, ◌≤◌, ◌<◌}
+use Prim.Native.Nat.{ℕ, min, zero, suc, ◌+◌, ◌≤◌, ◌<◌}
 use native.Mathlib.Nat.{not-suc-le-zero}
 use native.Mathlib.Numerals.{add-one}
 use native.Mathlib.Omega.{arith}
@@ -36,3 +36,10 @@ lits_next lits n i h k = first_next num (lit 0) lits n i h k
 -- past the last
 pub lits_none : (lits : List Lit) (n i : ℕ) → n ≤ length lits → n ≤ i → drop i (first_lits lits n) ≡ []
 lits_none lits n i h k = first_none num (lit 0) lits n i h k
+
+-- no more than there are can be left out
+pub drop_min : (k : ℕ) (ys : List ℕ) → drop (min k (length ys)) ys ≡ drop k ys
+drop_min zero ys = let e : min zero (length ys) ≡ zero = omega arith in rw e refl
+drop_min (suc k) [] = let e : min (suc k) zero ≡ zero = omega arith in rw e refl
+drop_min (suc k) (y ∷ ys) =
+    let e : min (suc k) (suc (length ys)) ≡ suc (min k (length ys)) = omega arith in rw e (drop_min k ys)

@@ -25,7 +25,7 @@ use Rattle.log_adder.specs.declared.AdderState.{AdderState}
 use Rattle.log_encoding.proofs.AdderSize.{pad_columns_shapes, push_value_counts}
 use Rattle.log_gather.specs.Arrays.{Arrays, Few, Holds, Pushed, grid_columns}
 use Rattle.log_gather.proofs.Widths.{columns_grid}
-use Rattle.log_linear.specs.Added.{Added, add_rule, bits_of, rule_outcome}
+use Rattle.log_linear.specs.Added.{add_rule, bits_of, rule_outcome}
 use Rattle.log_encoding.specs.Compare.{none_of}
 use Rattle.log_linear.specs.declared.Bits.{Bits}
 use Rattle.log_linear.specs.declared.RuleCounts.{RuleCounts}
@@ -223,12 +223,12 @@ module _ (x y m : Bits) (v : ℕ) (a : Counts) (xl : x.len ≤ length x.lits) (y
 -- the product: those past m's bits are 0
 pub product_added : (x y m : Bits) (v : ℕ) (a : Counts) → m.len ≤ length m.lits → {d e d₁ e₁ d₂ e₂ : List ℕ} (r : Multiplied) (u : Counts)
     → MultiplierAdded d e (multiplier (bits_of x) (bits_of y) (bits_of m) v) a d₁ e₁ r
-    → Added d₁ e₁ r.used (none_of (drop m.len (bits_of r.bits))) d₂ e₂ u
+    → after d₂ e₂ u ≡ add_clauses 0 (none_of (drop m.len (bits_of r.bits))) (after d₁ e₁ r.used)
     → rule_outcome d₂ e₂ (record { vars = r.vars; used = u }) ≡ add_rule (product (bits_of x) (bits_of y) (bits_of m) v) (after d e a)
 product_added x y m v a ml {d} {e} r u p q =
     let mul : EncodedBits = multiplier (bits_of x) (bits_of y) (bits_of m) v in
     let past : Clauses = none_of (drop (length (bits_of m)) mul.bits) in
     let n : none_of (drop m.len (bits_of r.bits)) ≡ past =
     λ i. none_of (drop (sym (lits_long m.lits m.len ml) i) (p.bits i)) in
-    let s = q.stores ∙ (λ i. add_clauses 0 (n i) (p.stores i)) ∙ sym (add_append 0 mul.clauses past (after d e a)) in
+    let s = q ∙ (λ i. add_clauses 0 (n i) (p.stores i)) ∙ sym (add_append 0 mul.clauses past (after d e a)) in
     λ i. record { stores = s i; vars = p.vars i }

@@ -3,7 +3,8 @@ use Rattle.std.specs.Prelude.{◌+◌, ◌^◌, ◌≤◌, suc, zero, ℕ, false
 use Rattle.sat.specs.Encoded.{EncodedBits}
 use Rattle.sat.specs.Fresh.{fresh}
 use Rattle.sat.specs.declared.Lit.{Lit}
-use Rattle.clause_set.specs.Stores.{add_clauses, after}
+use Rattle.clause_set.specs.Stores.{Wrote, add_clauses, after}
+use Rattle.clause_set.specs.declared.ClauseSet.{ClauseSet}
 use Rattle.clause_set.specs.declared.Counts.{Counts}
 use Rattle.log_adder.specs.ColumnInfo.{AllLow}
 use Rattle.log_encoding.specs.Gather.{Grid, push_value}
@@ -25,6 +26,13 @@ pub record RowsAdded (d e xs ys : List ℕ) (v : ℕ) (a : Counts) (d' e' : List
   pub few_vars : r.vars ≤ v + 144
   pub few_lits : r.used.lits ≤ a.lits + 1008
   pub few_clauses : r.used.clauses ≤ a.clauses + 432
+
+-- the same of a set of clauses
+pub record RowsWritten (s : ClauseSet) (xs ys : List ℕ) (t : ClauseSet) : Type 0 where
+  pub wrote : Wrote s (rows_vars xs ys s.vars) (rows xs ys s.vars) t
+  pub few_vars : t.vars ≤ s.vars + 144
+  pub few_lits : t.used.lits ≤ s.used.lits + 1008
+  pub few_clauses : t.used.clauses ≤ s.used.clauses + 432
 
 -- `rows_grid` from bit counts: x rows of y literals, the first from column o on
 abbrev pub rows_of : ℕ → ℕ → ℕ → ℕ → Grid → Grid

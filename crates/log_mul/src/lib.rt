@@ -2,23 +2,24 @@
 // only counts.
 #![tactic(auto)]
 
-ghost use Rattle.std.specs.Prelude.{◌≡◌, [], ◌+◌, ◌*◌, ◌^◌, ◌≤◌, ◌<◌, length, replicate};
+ghost use Rattle.std.specs.Prelude.{◌≡◌, [], ◌+◌, ◌*◌, ◌^◌, ◌≤◌, ◌<◌, length, map, replicate};
 ghost use Rattle.sat.specs.LitArray.{first_lits};
 ghost use Rattle.sat.specs.Fresh.{fresh};
-ghost use Rattle.clause_set.specs.Stores.{after};
+ghost use Rattle.sat.specs.LitArray.{num};
+ghost use Rattle.clause_set.specs.Stores.{Added, Below, Wrote, after};
 ghost use Rattle.log_adder.specs.ColumnInfo.{AllLow};
 ghost use Rattle.log_encoding.specs.AdderSize.{greatest_height, input_shapes, pad_shapes, reached};
 ghost use Rattle.log_gather.specs.Arrays.{Few};
-ghost use Rattle.log_linear.specs.Added.{Added, add_rule, bits_of, rule_outcome};
+ghost use Rattle.log_linear.specs.Added.{add_rule, bits_of, rule_outcome};
 ghost use Rattle.log_mul.specs.Bits.{BitAdded, BitsLeft, ProductNumbered};
-ghost use Rattle.log_mul.specs.Added.{MultiplierAdded, MultiplierReady, RowsAdded, RowsGathered};
+ghost use Rattle.log_mul.specs.Added.{MultiplierAdded, MultiplierReady, RowsAdded, RowsGathered, RowsWritten};
 ghost use Rattle.log_encoding.specs.Multiply.{and_gate, multiplier, product, row};
 ghost use Rattle.log_encoding.specs.MulSize.{multiplier_reached, rows_counts};
 
-use clause_set::Counts;
+use clause_set::{ClauseSet, Counts};
 use log_adder::{AdderInput, greatest_height, log_encoding_adder};
 use log_gather::{larger, no_columns, push_scaled};
-use log_linear::{Bits, RuleCounts, add_three, add_two, none_of};
+use log_linear::{Bits, RuleCounts, none_of};
 use sat::{Lit, Var};
 
 // The bits of a product, and the counts of variables and of the stores after its clauses.
@@ -46,39 +47,37 @@ pub struct BitsState {
 }
 
 // m is x and y.
-fn and_gate(lits: &mut [u32], ends: &mut [u32], m: Lit, x: Lit, y: Lit, at: Counts) -> Counts
-    requires { (at.lits < 2 ^ 30 + 2 ^ 29) × (at.clauses < 2 ^ 30 + 2 ^ 29) }
-    ensures { Added lits.old ends.old at (and_gate m.0 x.0 y.0) lits.new ends.new result }
+fn and_gate(set: &mut ClauseSet<'_>, m: Lit, x: Lit, y: Lit)
+    requires { Below (2 ^ 30 + 2 ^ 29) set.old }
+    ensures { Added set.old (and_gate m.0 x.0 y.0) set.new }
 {
-    let not_m = m.negated();
-    let not_x = x.negated();
-    let not_y = y.negated();
-    let one = add_two(lits, ends, not_m, x, at);
-    let two = add_two(lits, ends, not_m, y, one);
-    add_three(lits, ends, not_x, not_y, m, two)
+    set.push(&[!m, x]);
+    set.push(&[!m, y]);
+    set.push(&[!x, !y, m]);
 }
 
-// x and each of y's bits, in new variables from v on.
-fn push_row(lits: &mut [u32], ends: &mut [u32], x: Lit, y: Bits, v: u32, at: Counts) -> Counts
-    requires { (y.len ≤ 12) × (v ≤ 2 ^ 29) × (at.lits ≤ 2 ^ 30) × (at.clauses ≤ 2 ^ 30) }
-    ensures { Added lits.old ends.old at (row x.0 (bits_of y) v) lits.new ends.new result }
+// x and each of y's bits, in new variables.
+fn push_row(set: &mut ClauseSet<'_>, x: Lit, ys: &[Lit])
+    requires { (length ys.now ≤ 12) × (set.old.vars ≤ 2 ^ 29) × Below (2 ^ 30 + 1) set.old }
+    ensures { Wrote set.old (set.old.vars + length ys.now) (row x.0 (map num ys.now) set.old.vars) set.new }
 {
-    let ys = y.lits;
-    let n = y.len;
-    let mut used = at;
-    let mut w = v;
-    let mut j: usize = 0;
-    while j < n {
-        let new = Var(w);
-        let m = new.as_lit(false);
-        used = and_gate(lits, ends, m, x, ys[j], used);
-        w += 1;
-        j += 1;
+    for y in ys {
+        let m = set.new_lit();
+        and_gate(set, m, x, *y);
     }
-    used
 }
 
 // Each of x's bits and each of y's: x's outer, y's inner.
+fn push_all_rows(set: &mut ClauseSet<'_>, xs: &[Lit], ys: &[Lit])
+    requires { (length xs.now ≤ 12) × (length ys.now ≤ 12) × (set.old.vars ≤ 1000000) × Below (2 ^ 29 + 1) set.old }
+    ensures { RowsWritten set.old (map num xs.now) (map num ys.now) set.new }
+{
+    for x in xs {
+        push_row(set, *x, ys);
+    }
+}
+
+// The same into stores that are no set yet.
 fn push_rows(
     lits: &mut [u32],
     ends: &mut [u32],
@@ -90,17 +89,18 @@ fn push_rows(
     requires { (x.len ≤ 12) × (y.len ≤ 12) × (vars ≤ 1000000) × (at.lits ≤ 2 ^ 29) × (at.clauses ≤ 2 ^ 29) }
     ensures { RowsAdded lits.old ends.old (bits_of x) (bits_of y) vars at lits.new ends.new result }
 {
-    let xs = x.lits;
-    let n = x.len;
-    let mut used = at;
-    let mut v = vars;
-    let mut i: usize = 0;
-    while i < n {
-        used = push_row(lits, ends, xs[i], y, v, used);
-        v += y.len as u32;
-        i += 1;
+    let mut set = ClauseSet {
+        lits,
+        ends,
+        base: 0,
+        vars,
+        used: at,
+    };
+    push_all_rows(&mut set, x.as_slice(), y.as_slice());
+    RuleCounts {
+        vars: set.vars,
+        used: set.used,
     }
-    RuleCounts { vars: v, used }
 }
 
 // The literals of n consecutive variables.
@@ -266,10 +266,16 @@ pub fn encode_product(
     ensures { rule_outcome lits.new ends.new result ≡ add_rule (product (bits_of x) (bits_of y) (bits_of m) vars) (after lits.old ends.old at) }
 {
     let mul = log_encoding_multiplier(lits, ends, x, y, m, vars, at);
-    let bits = mul.bits;
-    let used = none_of(lits, ends, bits, m.len, mul.used);
-    RuleCounts {
+    let mut set = ClauseSet {
+        lits,
+        ends,
+        base: 0,
         vars: mul.vars,
-        used,
+        used: mul.used,
+    };
+    none_of(&mut set, mul.bits.rest(m.len));
+    RuleCounts {
+        vars: set.vars,
+        used: set.used,
     }
 }

@@ -179,7 +179,7 @@ fn encode_bit(
         };
     }
     EncodedBit {
-        lit: cond.negated(),
+        lit: !cond,
         next: v,
         used: used,
     }

@@ -17,7 +17,7 @@ ghost use Rattle.log_terms.specs.Terms.{TermsFit, shapes_all, weighted_all};
 ghost use Rattle.log_weighted.specs.Added.{SumAdded, SumsAdded};
 
 use arithmetic::bit_length;
-use clause_set::{Clause, Counts, push};
+use clause_set::{ClauseSet, Counts, push};
 use log_adder::{AdderInput, AdderState, greatest_height, higher, log_encoding_adder};
 use log_adder2::{EqInput, eq_greatest_height, log_encoding_adder2};
 use log_gather::larger;
@@ -141,7 +141,23 @@ fn weighted_comparison(
     ensures { rule_outcome lits.new ends.new result ≡ add_rule (linear_compared is_ne (weighted_all ts n) a b vars) (after lits.old ends.old at) }
 {
     let s = both_sums(lits, ends, ts, n, steps, a, b, vars, at);
-    push_comparison(lits, ends, is_ne, s.positive, s.negative, s.vars, s.used)
+    let mut set = ClauseSet {
+        lits,
+        ends,
+        base: 0,
+        vars: s.vars,
+        used: s.used,
+    };
+    push_comparison(
+        &mut set,
+        is_ne,
+        s.positive.as_slice(),
+        s.negative.as_slice(),
+    );
+    RuleCounts {
+        vars: set.vars,
+        used: set.used,
+    }
 }
 
 // By how much a exceeds b.
@@ -188,7 +204,7 @@ pub fn eq_constants(
     if x == y {
         return RuleCounts { vars, used: at };
     }
-    let used = push(lits, ends, Clause::empty(), 0, at);
+    let used = push(lits, ends, &[], 0, at);
     RuleCounts { vars, used }
 }
 

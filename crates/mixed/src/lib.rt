@@ -9,7 +9,7 @@ ghost use Rattle.log_encoding.specs.Enumerate.{bounded};
 ghost use Rattle.mixed.specs.Infos.{AllSmall, InTable, Small, equated, info_lit, info_term, infos_left, negated_info};
 ghost use Rattle.mixed.specs.Filling.{Filled, put_last, put_term};
 
-use clause_set::{Clause, Counts};
+use clause_set::Counts;
 use mixed_table::{encode_table, wide};
 use sat::Lit;
 
@@ -31,8 +31,7 @@ pub fn lit_at(t: LinearInfo, i: u32) -> Lit
 {
     let f = t.first;
     if t.falling {
-        let l = Lit(f.0 + 2 * (t.count - 1 - i));
-        l.negated()
+        !Lit(f.0 + 2 * (t.count - 1 - i))
     } else {
         Lit(f.0 + 2 * i)
     }
@@ -121,7 +120,7 @@ pub fn encode_linear_ge_mixed_from_info(
     ensures { after lits.new ends.new result ≡ add_clauses base (bounded (map info_term (infos_left ts n 0)) above below) (after lits.old ends.old at) }
 {
     if above < below {
-        return clause_set::push(lits, ends, Clause::empty(), base, at);
+        return clause_set::push(lits, ends, &[], base, at);
     }
     let mut tab = [0u32; 144];
     let left = fill_table(&mut tab, ts, n);

@@ -4,6 +4,8 @@
 ghost use Rattle.std.specs.Prelude.{◌≡◌, ◌<◌};
 ghost use Rattle.sat.specs.Lit.{as_lit, var, is_negated, neg};
 
+use std::ops::Not;
+
 #[derive(Clone, Copy)]
 pub struct Var(pub u32);
 
@@ -35,11 +37,15 @@ impl Lit {
     {
         self.0 % 2 == 1
     }
+}
 
-    // The Rust's `!`.
-    pub fn negated(self) -> Lit
-        ensures { result.0 ≡ neg self.0 }
-    {
+// The other literal of the same variable.
+impl Not for Lit {
+    type Output = Lit;
+
+    ghost not_gives = { λ l r. r.0 ≡ neg l.0 };
+
+    fn not(self) -> Lit {
         let n = self.0;
         if n % 2 == 0 { Lit(n + 1) } else { Lit(n - 1) }
     }

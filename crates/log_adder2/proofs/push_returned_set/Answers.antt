@@ -1,7 +1,6 @@
 -- `log_adder2::push_returned_set` meets its contract.
 -- the heights, as the laws of the passes ask for them
 use mathlib.Core.Bool.{false}
-use mathlib.Core.List.{List, [], ◌∷◌}
 use mathlib.Core.Path.{◌≡◌, ap, ◌∙◌}
 use Prim.Native.Nat.{ℕ, suc, ◌-◌}
 use native.Mathlib.Omega.{arith}
@@ -30,9 +29,8 @@ live s first n e = returned_columns s.args.cols s.args.counts s.args.g s.require
 
 pub returns-in_default : goal.returns-in_default
 returns-in_default c =
-    let w = c.push in
     let added : Clauses → Stores = λ (cs : Clauses). add_clauses 0 cs (after c.args.lits.now c.args.ends.now c.args.at) in
-    w.ensures ∙ ap (λ (q : List ℕ). added (q ∷ [])) c.empty.ensures.1
+    c.push.ensures
     ∙ ap added (returned_dead c.args.cols c.args.counts c.args.g c.requires.eq_fits (fits (goal.at.returns-in_default c).Start) c.args.carry c.requires.carry_value c.in_default.is)
 
 pub returns : goal.returns

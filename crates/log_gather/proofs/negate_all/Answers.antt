@@ -21,7 +21,7 @@ loop-i-init c = (omega arith, refl, refl, every_replicate (lit 0) (λ (x : Lit).
 pub loop-i-preserved : goal.loop-i-preserved
 loop-i-preserved c =
     let l = c.loop-i in
-    let w = c.negated in (
+    let w = c.not in (
       omega arith,
       length-set l.out l.i w.result ∙ l.invariant.1,
       negate_more l.out c.args.lits l.i w.result (omega arith) (omega (arith, lits-long (goal.at.loop-i-preserved c).Start, c.requires.0)) w.ensures l.invariant.2,

@@ -1,59 +1,64 @@
 -- `log_linear::push_ne` meets its contract.
-use mathlib.Core.Path.{◌≡◌, ap, ◌∙◌}
-use mathlib.Core.List.{List, [], ◌∷◌, ◌++◌}
-use Prim.Native.Nat.{ℕ, ◌+◌, ◌*◌, ◌≤◌}
+use Rattle.std.proofs.Common.{rules}
+use Rattle.std.specs.Iterator.Adapters.{zip_first, zip_second}
+use Rattle.std.specs.Slice.Iter.{iter_rest}
+use Rattle.std.proofs.lemmas.Slice.Zip.{zip_turn, zip_end}
+use mathlib.Core.Path.{◌≡◌, ap, refl, sym, ◌∙◌}
+use Rattle.clause_set.proofs.Writing.{wrote_as, wrote_then}
+use mathlib.Core.List.{[], ◌∷◌, ◌++◌, map}
+use Prim.Native.Nat.{◌+◌, ◌*◌}
 use native.Mathlib.Omega.{arith}
-use lib.ListN.{drop, get_or, length, length-drop}
+use lib.ListN.{drop, get_or, length, length-append, length-drop, length-map}
+use Rattle.sat.specs.Encoded.{after_clauses}
 use Rattle.clause_set.specs.Clause.{clause_lits}
-use Rattle.sat.specs.LitArray.{first_lits, lit}
+use Rattle.sat.specs.LitArray.{lit, num}
 use Rattle.log_encoding.specs.Compare.{ne_bits, xor_gate}
-use Rattle.log_linear.proofs.Adding.{added_as}
-use Rattle.log_linear.proofs.Comparing.{ne_end, ne_step, rule_end, rule_turn}
-use Rattle.log_linear.proofs.Literals.{lits_next, lits_long}
+use Rattle.log_linear.proofs.Comparing.{ne_end, ne_step, nums_from, nums_next, rule_end, rule_turn}
 use Rattle.log_linear.proofs.push_ne.Goals as goal
-use Rattle.log_linear.proofs.push_ne.Goals.{Start}
 
-p-fits : (c : Start) → c.args.p.len ≤ length c.args.p.lits
-p-fits c = let e : length c.args.p.lits ≡ 32 = c.well_formed.1.1.0.1.1.0.1.0.1 in omega (arith, c.requires)
-
-n-fits : (c : Start) → c.args.n.len ≤ length c.args.n.lits
-n-fits c = let e : length c.args.n.lits ≡ 32 = c.well_formed.1.1.1.0.1.1.0.1.0.1 in omega (arith, c.requires)
-
--- the bits of p and n from i on
-abbrev p-left : Start → ℕ → List ℕ
-p-left c i = drop i (first_lits c.args.p.lits c.args.p.len)
-
-abbrev n-left : Start → ℕ → List ℕ
-n-left c i = drop i (first_lits c.args.n.lits c.args.n.len)
-
-pub loop-i-preserved : goal.loop-i-preserved
-loop-i-preserved c =
-    let l = c.loop-i in
-    let t = c.loop-i-test.true in
-    let m = c.smaller-common.ensures in
-    let w = c.xor_gate-used in
-    let x = c.with-c.ensures in
-    let lt = c.as_lit-aux.ensures in
-    let a = (get_or c.args.p.lits l.i (lit 0)).0 in
-    let b = (get_or c.args.n.lits l.i (lit 0)).0 in (
-      rw (x.1, lt)
-          (rule_turn (xor_gate (2 * l.v) a b) (ne_bits (p-left (goal.at.loop-i-preserved c).Start (l.i + 1)) (n-left (goal.at.loop-i-preserved c).Start (l.i + 1)) (clause_lits l.c ++ (2 * l.v ∷ [])) (l.v + 1))
-          (ne_step a b (p-left (goal.at.loop-i-preserved c).Start (l.i + 1)) (n-left (goal.at.loop-i-preserved c).Start (l.i + 1)) (clause_lits l.c) l.v (lits_next c.args.p.lits c.args.p.len l.i (p-fits (goal.at.loop-i-preserved c).Start) (omega (arith, t, m))) (lits_next c.args.n.lits c.args.n.len l.i (n-fits (goal.at.loop-i-preserved c).Start) (omega (arith, t, m))))
-          (omega arith) (omega arith) l.invariant.0 w.auto.lits w.auto.ends (added_as _ (ap (λ (q : ℕ). xor_gate q a b) lt) w.ensures)),
-      omega (arith, x.0, l.invariant.1),
-      omega (arith, l.invariant.2),
-      omega (arith, t),
+pub loop-p-preserved : goal.loop-p-preserved
+loop-p-preserved c =
+    let l = c.loop-p in
+    let ps = c.args.ps.now in
+    let ns = c.args.ns.now in
+    let s = c.into_iter-p-iterator.result in
+    let first : iter_rest (zip_first s) ≡ ps = search rules in
+    let second : iter_rest (zip_second s) ≡ ns = search rules in
+    let turn = zip_turn ps ns l.yielded s l.p-iterator c.next.new.self c.next.result first second l.yielded_by (c.in-Some.p, c.in-Some.n) c.in-Some.is c.next.ensures.steps in
+    let i = length l.yielded in
+    let p = (get_or ps i (lit 0)).0 in
+    let n = (get_or ns i (lit 0)).0 in
+    let v = l.set.vars in
+    let x = c.new_lit-aux.ensures in
+    let e : length (l.yielded ++ ((c.in-Some.p, c.in-Some.n) ∷ [])) ≡ i + 1 = length-append l.yielded _ in
+    let gate : xor_gate c.new_lit-aux.result.0 c.in-Some.p.now.0 c.in-Some.n.now.0 ≡ xor_gate (2 * v) p n =
+    λ j. xor_gate (x.new_lit j) (turn.2 (lit 0) j).0 (turn.3 (lit 0) j).0 in
+    let front = c.push.ensures.1 ∙ ap (λ q. clause_lits l.clause ++ (q ∷ [])) x.new_lit in
+    let vars = c.xor_gate.ensures.vars_are ∙ x.wrote.vars_are in
+    let rest : ne_bits (drop (i + 1) (map num ps)) (drop (i + 1) (map num ns)) (clause_lits l.clause ++ (2 * v ∷ [])) (v + 1) ≡ _ =
+    λ j. ne_bits (drop (sym e j) (map num ps)) (drop (sym e j) (map num ns)) (sym front j) (sym vars j) in (
+      rule_turn (xor_gate (2 * v) p n) _
+          (ne_step p n _ _ (clause_lits l.clause) v (nums_next ps i turn.0) (nums_next ns i turn.1) ∙ ap (after_clauses (xor_gate (2 * v) p n)) rest)
+          e (omega arith) (omega arith) l.invariant.0 (wrote_as (wrote_then x.wrote c.xor_gate.ensures) refl gate),
+      omega (arith, e, c.push.ensures.0, l.invariant.1),
+      omega (arith, e, c.xor_gate.ensures.vars_are, x.wrote.vars_are, l.invariant.2),
     )
 
 pub returns : goal.returns
 returns c =
-    let l = c.loop-i in
-    let m = c.smaller-common.ensures in
-    let x = length-drop l.i (first_lits c.args.p.lits c.args.p.len) in
-    let y = length-drop l.i (first_lits c.args.n.lits c.args.n.len) in
-    let u = lits_long c.args.p.lits c.args.p.len (p-fits (goal.at.returns c).Start) in
-    let v = lits_long c.args.n.lits c.args.n.len (n-fits (goal.at.returns c).Start) in
-    let e = c.with_rest-last.ensures.1 ∙ ap (λ (q : List ℕ). q ++ n-left (goal.at.returns c).Start l.i) c.with_rest.ensures.1 in
-    rule_end (record { vars = l.v; used = c.add.result }) (((clause_lits l.c ++ p-left (goal.at.returns c).Start l.i) ++ n-left (goal.at.returns c).Start l.i) ∷ [])
-    (ne_end (p-left (goal.at.returns c).Start l.i) (n-left (goal.at.returns c).Start l.i) (clause_lits l.c) l.v (omega (arith, x, y, u, v, m, c.loop-i-test.false)))
-    l.invariant.0 (added_as _ (ap (λ (q : List ℕ). q ∷ []) e) c.add.ensures)
+    let l = c.loop-p in
+    let ps = c.args.ps.now in
+    let ns = c.args.ns.now in
+    let s = c.into_iter-p-iterator.result in
+    let first : iter_rest (zip_first s) ≡ ps = search rules in
+    let second : iter_rest (zip_second s) ≡ ns = search rules in
+    let all = zip_end ps ns l.yielded s l.p-iterator c.next.new.self c.next.result first second l.yielded_by c.in-None.is c.next.ensures.steps in
+    let i = length l.yielded in
+    let m = c.min-common.ensures in
+    let k : c.min-common.result ≡ i = m ∙ sym all in
+    let front = clause_lits l.clause in
+    let first_rest = c.extend.ensures.1 ∙ ap (λ q. front ++ q) (nums_from ps c.min-common.result i k) in
+    let both = c.extend-2.ensures.1 ∙ ap (λ q. clause_lits c.extend.new.self ++ q) (nums_from ns c.min-common.result i k) ∙ ap (λ q. q ++ drop i (map num ns)) first_rest in
+    rule_end (((front ++ drop i (map num ps)) ++ drop i (map num ns)) ∷ [])
+    (ne_end (drop i (map num ps)) (drop i (map num ns)) front l.set.vars (omega (arith, length-drop i (map num ps), length-drop i (map num ns), length-map ps num, length-map ns num, all)))
+    l.invariant.0 (wrote_as c.push-2.ensures.added refl (ap (λ q. q ∷ []) (c.as_slice.ensures ∙ both)))

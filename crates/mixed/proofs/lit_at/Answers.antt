@@ -5,7 +5,7 @@ use Rattle.mixed.proofs.lit_at.Goals as goal
 
 pub returns-then-t : goal.returns-then-t
 unfolding info_lit
-returns-then-t c = c.negated.ensures ∙ rw c.if-t.true
+returns-then-t c = c.not.ensures ∙ rw c.if-t.true
 
 pub returns-else-t : goal.returns-else-t
 unfolding info_lit
