@@ -3,7 +3,7 @@ use Prim.Native.Nat.{ℕ}
 use lib.ListN.{set}
 use mathlib.Core.List.{List}
 use mathlib.Core.Path.{◌∙◌, ◌≡◌, ap}
-use Rattle.encoder_figures.specs.declared.Figures.{Figures}
+use Rattle.encoder_figures.specs.Figures.{Figures}
 use Rattle.job_file.specs.Run.{JobRun}
 use Rattle.job_figures.specs.FileFigures.{FileFigures, figures_after, told}
 
