@@ -1,10 +1,9 @@
 -- What a call after a job file says, by the file's number and the answer's case.
 use Prim.Native.Nat.{ℕ}
 use borrow.Author.Tests.{ne_eqb}
-use lib.ListN.{set}
 use native.Mathlib.Omega.{arith}
 use mathlib.Core.List.{List}
-use mathlib.Core.Path.{◌∙◌, ◌≡◌, ap}
+use mathlib.Core.Path.{◌≡◌, ap}
 use Rattle.job_file.specs.Run.{JobRun}
 use Rattle.std.specs.Prelude.{Ok, Err}
 use Rattle.refusal.specs.Number.{number}
@@ -14,7 +13,7 @@ use Rattle.solver_answer.specs.declared.Solution.TheVariants.{Assignment, Unsati
 use Rattle.solver_answer.specs.Answer.{Said, said}
 use Rattle.solver_answer.specs.Print.{print_said}
 use Rattle.encoder_solution.specs.Answers.{PrintsAnswer, ReadsAnswer}
-use Rattle.sumirewha.specs.Answers.{Answered, file_printed, file_read, file_said, noted}
+use Rattle.sumirewha.specs.Answers.{file_printed, file_read, file_said}
 
 abbrev says : ℕ → ℕ → List ℕ → Said
 says status value slice = record { status = status; value = value; slice = slice }
@@ -46,20 +45,3 @@ module _ (run : JobRun) (bytes slice : List ℕ) (h : run.status ≡ 0) {after :
   pub print_refused : (x : Refusal) → PrintsAnswer run.env run.lits run.ends bytes slice (Err x) after → says (number x) 0 after ≡ file_printed bytes slice run
   unfolding file_said print_said
   print_refused x r = rw (h, ← r.answer) (ap (λ (l : List ℕ). says (number x) 0 l) r.text)
-
--- the run, the call on what it left, and the two entries
-pub answered : (s : JobRun → Said) {file run : JobRun} {a : Said} {counts first second : List ℕ} → run ≡ file → a ≡ s run → first ≡ set counts 0 run.field
-    → second ≡ set first 1 a.value → Answered file s a.status run.lits run.ends counts second a.slice
-answered s {file} {run} {a} {counts} ran did field value =
-    let is = did ∙ ap s ran in
-    record {
-      status_is = ap (λ (x : Said). x.status) is;
-      lits_are = ap (λ (r : JobRun). r.lits) ran;
-      ends_are = ap (λ (r : JobRun). r.ends) ran;
-      counts_are =
-          value
-          ∙ ap (λ (l : List ℕ). set l 1 a.value) field
-          ∙ ap (λ (x : Said). noted run x counts) is
-          ∙ ap (λ (r : JobRun). noted r (s file) counts) ran;
-      slice_is = ap (λ (x : Said). x.slice) is;
-    }

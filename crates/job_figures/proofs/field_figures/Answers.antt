@@ -3,7 +3,6 @@ use borrow.Author.Rules.{rules}
 use mathlib.Core.Path.{◌≡◌, ◌∙◌}
 use Rattle.std.specs.Prelude.{Err}
 use Rattle.refusal.specs.declared.Refusal.TheVariants.{BadField}
-use Rattle.job_fields.specs.Places.{Contents, End, field_at}
 use Rattle.job_file.proofs.Running.{none_there}
 use Rattle.job_figures.proofs.Single.{broken_field, more_behind, no_field, only_field}
 use Rattle.job_figures.proofs.field_figures.Goals as goal
