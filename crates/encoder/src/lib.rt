@@ -1,5 +1,5 @@
 // The public calls, after encoder/mod.rs, the two of a solver's answer (#103) and the figures of a sum and a product (#105). None has a
-// `requires`: what does not fit is refused by a number.
+// `requires`: what does not fit is refused.
 #![tactic(auto)]
 
 pub use encoder_env::EncoderEnv;

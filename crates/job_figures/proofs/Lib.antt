@@ -1,4 +1,3 @@
 pub mod Many
 pub mod Called
 pub mod Single
-pub mod Reported

@@ -9,11 +9,8 @@ use mathlib.Core.Path.{◌∙◌, ◌≡◌, ap, refl, sym}
 use Rattle.encoder_env.specs.declared.EncoderEnv.{EncoderEnv}
 use Rattle.job_fields.specs.Fields.{broken, field, fields, fields_of}
 use Rattle.job_fields.specs.Numbers.{word}
-use Rattle.job_fields.specs.Places.{field_at, fields_from}
-use Rattle.job_fields.specs.declared.fields.FieldAt.{FieldAt}
-use Rattle.job_fields.specs.declared.fields.FieldAt.TheVariants.{Broken, Contents, End}
+use Rattle.job_fields.specs.Places.{Broken, Contents, End, FieldAt, field_at, fields_from}
 use Rattle.job_fields.proofs.Places.{Within, field_within, fields_at}
-use Rattle.job_file.proofs.Running.{Ends}
 use Rattle.job_figures.specs.FieldFigures.{field_figures, no_figures, one_field_figures}
 
 -- no byte is left: no field
@@ -38,35 +35,34 @@ second env tag c (suc n) (x ∷ y ∷ z ∷ s) h g = go (leb (word y z) (length 
     go false = refl
 
 -- what the code reads at place 0 stands for all fields
-module _ (env : EncoderEnv) (s : List ℕ) {r : FieldAt} (p : r ≡ field_at s 0) where
-  read : (x : FieldAt) → r ≡ x → fields_of s ≡ fields_from (length s - 1) s x
+module _ (env : EncoderEnv) (s : List ℕ) where
+  read : (x : FieldAt) → x ≡ field_at s 0 → fields_of s ≡ fields_from (length s - 1) s x
   unfolding fields_of
-  read x q = fields_at (length s) s 0 (omega arith) ∙ ap (fields_from (length s - 1) s) (sym p ∙ q)
+  read x p = fields_at (length s) s 0 (omega arith) ∙ ap (fields_from (length s - 1) s) (sym p)
 
   -- none is there, or a broken one
-  pub no_field : Ends r → no_figures 18 ≡ field_figures env (fields_of s)
+  pub no_field : End ≡ field_at s 0 → no_figures 18 ≡ field_figures env (fields_of s)
   unfolding field_figures
-  no_field = go r refl
-    where
-      go : (x : FieldAt) → r ≡ x → Ends x → no_figures 18 ≡ field_figures env (fields_of s)
-      go (Contents tag begin end) q h = absurd h
-      go End q h = rw (read End q)
-      go Broken q h = rw (read Broken q)
+  no_field p = rw (read End p)
 
-  module _ (tag begin end : ℕ) (q : r ≡ Contents tag begin end) where
-    pub inside : Within s 0 begin end
-    inside = field_within s 0 tag begin end (sym p ∙ q)
+  pub broken_field : Broken ≡ field_at s 0 → no_figures 18 ≡ field_figures env (fields_of s)
+  unfolding field_figures
+  broken_field p = rw (read Broken p)
+
+  module _ (tag : ℕ) (c : List ℕ) (end : ℕ) (p : Contents tag c end ≡ field_at s 0) where
+    inside : Within s 0 end
+    inside = field_within s 0 tag c end (sym p)
 
     -- bytes stand behind it
     pub more_behind : (end ≡ length s → ⊥) → no_figures 18 ≡ field_figures env (fields_of s)
     more_behind d =
-        let a : 0 < length s - 1 = omega (arith, inside.head, inside.from, inside.inside, d) in
+        let a : 0 < length s - 1 = omega (arith, inside.from, inside.inside, d) in
         let b : 0 < length (drop end s) = rw length-drop (omega (arith, inside.inside, d)) in
-        rw (read (Contents tag begin end) q) (second env tag (take (end - begin) (drop begin s)) (length s - 1) (drop end s) a b)
+        rw (read (Contents tag c end) p) (second env tag c (length s - 1) (drop end s) a b)
 
     -- it ends with the bytes
-    pub only_field : {c : List ℕ} → c ≡ take (end - begin) (drop begin s) → end ≡ length s → one_field_figures env tag c ≡ field_figures env (fields_of s)
+    pub only_field : end ≡ length s → one_field_figures env tag c ≡ field_figures env (fields_of s)
     unfolding field_figures
-    only_field is e =
+    only_field e =
         let h : length s ≤ end = omega (arith, e) in
-        rw (read (Contents tag begin end) q, is, drop_of_length-le s h, none_left (length s - 1))
+        rw (read (Contents tag c end) p, drop_of_length-le s h, none_left (length s - 1))

@@ -2,8 +2,7 @@
 use Rattle.std.specs.Prelude.{ℕ, eqb, length, ◌&&◌, ◌||◌, cond, List, [], ◌∷◌}
 use Rattle.encoder_env.specs.declared.EncoderEnv.{EncoderEnv}
 use Rattle.encoder.specs.Run.{Call, clause, encode_binary, encode_linear, encode_list, encode_mul, encode_range, get_int_value}
-use Rattle.encoder_figures.specs.Figures.{linear_figures, mul_figures}
-use Rattle.encoder_figures.specs.declared.Figures.{Figures}
+use Rattle.encoder_figures.specs.Figures.{Figures, linear_figures, mul_figures}
 use Rattle.job_fields.specs.Fields.{Field, broken, field, fields_of, right_length}
 use Rattle.job_file.specs.Calls.{call_of}
 

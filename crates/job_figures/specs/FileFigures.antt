@@ -1,6 +1,6 @@
 -- What a caller is told of one more field behind a job file.
 use Rattle.std.specs.Prelude.{ℕ, set, List, ◌≡◌}
-use Rattle.encoder_figures.specs.declared.Figures.{Figures}
+use Rattle.encoder_figures.specs.Figures.{Figures}
 use Rattle.job_file.specs.Run.{JobRun}
 use Rattle.job_figures.specs.FieldFigures.{file_figures}
 

@@ -1,10 +1,11 @@
 -- What the static library answers for a solver's answer, after a job file.
-use Rattle.std.specs.Prelude.{ℕ, eqb, length, set, cond, List, ◌≡◌}
+use Rattle.std.specs.Prelude.{ℕ, eqb, length, set, cond, List, ◌≡◌, Result, Ok, Err}
 use Rattle.job_file.specs.Run.{JobRun}
 use Rattle.solver_answer.specs.Answer.{Said, assignment, said}
 use Rattle.solver_answer.specs.Print.{print, print_said}
 use Rattle.encoder_solution.specs.Answers.{print_answer, read_answer}
-use Rattle.sumirewha.specs.declared.Called.{Called}
+use Rattle.refusal.specs.Number.{number}
+use Rattle.refusal.specs.declared.Refusal.{Refusal}
 
 -- of an accepted file what the call says; else the file's own number, value 0, and the slice as it was
 unfoldable pub file_said : JobRun → Said → List ℕ → Said
@@ -21,8 +22,9 @@ file_printed bytes slice r =
     file_said r (print_said (print_answer r.env (length r.lits) (length r.ends) bytes (length slice)) (print bytes) slice) slice
 
 -- the code's answer, with the slice after it
-abbrev pub called : Called → List ℕ → Said
-called a slice = record { status = a.status; value = a.value; slice = slice }
+abbrev pub called : Result ℕ Refusal → List ℕ → Said
+called (Ok value) slice = record { status = 0; value = value; slice = slice }
+called (Err e) slice = record { status = number e; value = 0; slice = slice }
 
 -- the field and the value, as far as the slice is long
 abbrev pub noted : JobRun → Said → List ℕ → List ℕ

@@ -3,6 +3,7 @@
 #![tactic(auto)]
 
 ghost use Rattle.std.specs.Prelude.{◌≡◌};
+ghost use Rattle.refusal.specs.Number.{status};
 ghost use Rattle.job_file.specs.Run.{job_run, run_file};
 ghost use Rattle.job_figures.specs.FileFigures.{FileFigures};
 ghost use Rattle.job_print.specs.Print.{FilePrinted};
@@ -10,8 +11,19 @@ ghost use Rattle.sumirewha.specs.Answers.{Answered, called, file_printed, file_r
 ghost use Rattle.sumirewha.specs.Encoded.{Encoded};
 
 use clause_set::put;
-use encoder::{PrintedAnswer, Solution};
+use encoder::{Figures, Solution};
 use job_file::JobAnswer;
+use refusal::Refusal;
+
+// The number that an answer is told by.
+fn number<T: Copy>(answer: Result<T, Refusal>) -> u32
+    ensures { result ≡ status answer }
+{
+    match answer {
+        Ok(_) => 0,
+        Err(e) => e.number(),
+    }
+}
 
 // Runs the job file on the lent stores. Answers its number; `counts` gets field, variables, clauses and literals.
 #[unsafe(no_mangle)]
@@ -24,12 +36,11 @@ pub extern "C" fn sumirewha_encode(
     ensures { Encoded (run_file bytes.now lits.old ends.old) result lits.new ends.new counts.old counts.new }
 {
     let a = job_file::run(bytes, lits, ends);
-    let env = a.env;
     put(counts, 0, a.field);
-    put(counts, 1, env.variables);
-    put(counts, 2, env.clauses);
-    put(counts, 3, env.literals);
-    a.status
+    put(counts, 1, a.env.variables);
+    put(counts, 2, a.env.clauses);
+    put(counts, 3, a.env.literals);
+    number(a.answer)
 }
 
 // Runs the job file on the lent stores and answers how many bytes the text has that `cnf` prints for it. The text is written from the start
@@ -46,71 +57,36 @@ pub extern "C" fn sumirewha_print(
     job_print::print_file(bytes, lits, ends, out)
 }
 
-// The number and the value of a call after a job file.
-#[derive(Clone, Copy)]
-struct Called {
-    status: u32,
-    value: u32,
-}
-
-// Reads a solver's answer where the file was accepted.
+// Reads a solver's answer where the file was accepted: 1 where an assignment was found.
 fn read_after(
     run: JobAnswer,
     lits: &[u32],
     ends: &[u32],
     text: &[u8],
     assignment: &mut [u8],
-) -> Called
+) -> Result<u32, Refusal>
     ensures { called result assignment.new ≡ file_read text.now assignment.old (job_run run lits.now ends.now) }
 {
-    let status = run.status;
-    if status != 0 {
-        return Called { status, value: 0 };
-    }
-    let env = run.env;
-    let answer = encoder::read_answer(env, lits, ends, text, assignment);
-    match answer {
-        Solution::Assignment => Called {
-            status: 0,
-            value: 1,
-        },
-        Solution::Unsatisfiable => Called {
-            status: 0,
-            value: 0,
-        },
-        Solution::Refused(number) => Called {
-            status: number,
-            value: 0,
-        },
+    run.answer?;
+    match encoder::read_answer(run.env, lits, ends, text, assignment)? {
+        Solution::Assignment => Ok(1),
+        Solution::Unsatisfiable => Ok(0),
     }
 }
 
-// Prints an assignment where the file was accepted.
+// Prints an assignment where the file was accepted: the length of the text.
 fn print_after(
     run: JobAnswer,
     lits: &[u32],
     ends: &[u32],
     assignment: &[u8],
     out: &mut [u8],
-) -> Called
+) -> Result<u32, Refusal>
     ensures { called result out.new ≡ file_printed assignment.now out.old (job_run run lits.now ends.now) }
 {
-    let status = run.status;
-    if status != 0 {
-        return Called { status, value: 0 };
-    }
-    let env = run.env;
-    let printed = encoder::print_answer(env, lits, ends, assignment, out);
-    match printed {
-        PrintedAnswer::Text(size) => Called {
-            status: 0,
-            value: size as u32,
-        },
-        PrintedAnswer::Refused(number) => Called {
-            status: number,
-            value: 0,
-        },
-    }
+    run.answer?;
+    let size = encoder::print_answer(run.env, lits, ends, assignment, out)?;
+    Ok(size as u32)
 }
 
 // Runs the job file on the lent stores, then reads the solver's answer `text`. Answers the number, the file's own first; `counts` gets field and
@@ -129,8 +105,8 @@ pub extern "C" fn sumirewha_read_answer(
     let run = job_file::run(bytes, lits, ends);
     let read = read_after(run, lits, ends, text, assignment);
     put(counts, 0, run.field);
-    put(counts, 1, read.value);
-    read.status
+    put(counts, 1, read.unwrap_or(0));
+    number(read)
 }
 
 // Runs the job file on the lent stores, then prints the assignment as a solver's answer into `out`. Answers the number, the file's own first;
@@ -149,8 +125,8 @@ pub extern "C" fn sumirewha_print_answer(
     let run = job_file::run(bytes, lits, ends);
     let printed = print_after(run, lits, ends, assignment, out);
     put(counts, 0, run.field);
-    put(counts, 1, printed.value);
-    printed.status
+    put(counts, 1, printed.unwrap_or(0));
+    number(printed)
 }
 
 // Runs the job file on the lent stores, then gives the figures of one more field behind it, tag 05 or 06. Answers the number, the file's own
@@ -167,9 +143,14 @@ pub extern "C" fn sumirewha_figures(
 {
     let run = job_file::run(bytes, lits, ends);
     let figures = job_figures::figures_behind(run, field);
+    let added = figures.unwrap_or(Figures {
+        variables: 0,
+        clauses: 0,
+        literals: 0,
+    });
     put(counts, 0, run.field);
-    put(counts, 1, figures.variables);
-    put(counts, 2, figures.clauses);
-    put(counts, 3, figures.literals);
-    figures.status
+    put(counts, 1, added.variables);
+    put(counts, 2, added.clauses);
+    put(counts, 3, added.literals);
+    number(figures)
 }

@@ -1,30 +1,31 @@
 -- `job_figures::field_figures` meets its contract.
-use mathlib.Core.Path.{◌∙◌}
-use Rattle.job_file.proofs.Running.{told}
-use Rattle.job_figures.proofs.Single.{inside, more_behind, no_field, only_field}
+use borrow.Author.Rules.{rules}
+use mathlib.Core.Path.{◌≡◌, ◌∙◌}
+use Rattle.std.specs.Prelude.{Err}
+use Rattle.refusal.specs.declared.Refusal.TheVariants.{BadField}
+use Rattle.job_file.proofs.Running.{none_there}
+use Rattle.job_figures.proofs.Single.{broken_field, more_behind, no_field, only_field}
 use Rattle.job_figures.proofs.field_figures.Goals as goal
+
+pub returns-in_err-f : goal.returns-in_err-f
+returns-in_err-f c =
+    let a = c.args in
+    let is : c.from_residual.result ≡ Err BadField = search rules in
+    rw is (broken_field a.env a.bytes.now c.in_err-f.ensures.place)
 
 pub returns-in_default : goal.returns-in_default
 returns-in_default c =
     let a = c.args in
-    let f = c.field_at-place in
-    c.refused.ensures ∙ no_field a.env a.bytes.now f.ensures (told f.result c.in_default.not-Contents)
+    no_field a.env a.bytes.now (rw (none_there _ c.in_default.not-Some) at c.in_ok-f.ensures.place)
 
-pub returns-then-end-bytes : goal.returns-then-end-bytes
-returns-then-end-bytes c =
+pub returns-then-f-bytes : goal.returns-then-f-bytes
+returns-then-f-bytes c =
     let a = c.args in
-    let g = c.in-Contents in
-    c.refused-then-end-bytes.ensures ∙ more_behind a.env a.bytes.now c.field_at-place.ensures g.tag g.begin g.end g.is c.if-end-bytes.true
-
-pub contents-s-requires : goal.contents-s-requires
-contents-s-requires c =
-    let a = c.args in
-    let g = c.in-Contents in
-    let w = inside a.env a.bytes.now c.field_at-place.ensures g.tag g.begin g.end g.is in
-    (w.from, w.inside)
+    let f = c.in-Some.f in
+    more_behind a.env a.bytes.now f.tag f.contents.now f.end (rw c.in-Some.is at c.in_ok-f.ensures.place) c.if-f-bytes.true
 
 pub returns : goal.returns
 returns c =
     let a = c.args in
-    let g = c.in-Contents in
-    c.one_field.ensures ∙ only_field a.env a.bytes.now c.field_at-place.ensures g.tag g.begin g.end g.is c.contents-s.ensures c.if-end-bytes.false
+    let f = c.in-Some.f in
+    c.one_field.ensures ∙ only_field a.env a.bytes.now f.tag f.contents.now f.end (rw c.in-Some.is at c.in_ok-f.ensures.place) c.if-f-bytes.false

@@ -14,11 +14,11 @@ pub returns-then-n-gt12 : goal.returns-then-n-gt12
 returns-then-n-gt12 c =
     let a = c.args in
     c.linear_figures.ensures
-    ∙ linear_many a.env a.s.now (replicate 14 (pos 0)) c.wide-op.ensures.0 (to_z-of_z w32 _ (record { sfits = c.signed_long-constant.type_inv }) ∙ c.signed_long-constant.ensures) (lit< tt) c.if-n-gt12.true
+    ∙ linear_many a.env a.s.now (replicate 14 (pos 0)) c.from-op.ensures (to_z-of_z w32 _ (record { sfits = c.signed_long-constant.type_inv }) ∙ c.signed_long-constant.ensures) (lit< tt) c.if-n-gt12.true
 
 pub returns : goal.returns
 returns c =
     let a = c.args in
     let xs = c.terms.new.out in
     c.linear_figures-2.ensures
-    ∙ linear_called a.env a.s.now {ts = take (2 * ((length a.s.now - 5) / 3)) xs} c.wide-op.ensures.0 (to_z-of_z w32 _ (record { sfits = c.signed_long-constant.type_inv }) ∙ c.signed_long-constant.ensures) (linear_terms a.s.now xs c.requires c.terms.ensures)
+    ∙ linear_called a.env a.s.now {ts = take (2 * ((length a.s.now - 5) / 3)) xs} c.from-op.ensures (to_z-of_z w32 _ (record { sfits = c.signed_long-constant.type_inv }) ∙ c.signed_long-constant.ensures) (linear_terms a.s.now xs c.requires c.terms.ensures)

@@ -6,4 +6,4 @@ use Rattle.job_figures.proofs.rules.mul.Goals as goal
 pub returns : goal.returns
 returns c =
     let a = c.args in
-    c.mul_figures.ensures ∙ mul_called a.env a.s.now c.wide-x.ensures.0 c.wide-y.ensures.0 c.wide-m.ensures.0
+    c.mul_figures.ensures ∙ mul_called a.env a.s.now c.from-x.ensures c.from-y.ensures c.from-m.ensures

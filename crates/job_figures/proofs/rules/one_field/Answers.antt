@@ -7,7 +7,7 @@ use Rattle.job_figures.proofs.rules.one_field.Goals as goal
 pub returns-then-not-right_length : goal.returns-then-not-right_length
 returns-then-not-right_length c =
     let a = c.args in
-    c.refused.ensures ∙ wrong_length a.env a.s.now a.tag (sym c.right_length.ensures ∙ c.if-not-right_length.true)
+    wrong_length a.env a.f.contents.now a.f.tag (sym c.right_length.ensures ∙ c.if-not-right_length.true)
 
 pub linear-requires : goal.linear-requires
 linear-requires c = sum_long _ _ c.in-5.is (sym c.right_length.ensures ∙ c.if-not-right_length.false)
@@ -18,14 +18,14 @@ mul-requires c = product_long _ _ c.in-6.is (sym c.right_length.ensures ∙ c.if
 pub returns-in-5 : goal.returns-in-5
 returns-in-5 c =
     let a = c.args in
-    c.linear.ensures ∙ tag_called a.env a.s.now a.tag 5 c.in-5.is (sym c.right_length.ensures ∙ c.if-not-right_length.false) refl
+    c.linear.ensures ∙ tag_called a.env a.f.contents.now a.f.tag 5 c.in-5.is (sym c.right_length.ensures ∙ c.if-not-right_length.false) refl
 
 pub returns-in-6 : goal.returns-in-6
 returns-in-6 c =
     let a = c.args in
-    c.mul.ensures ∙ tag_called a.env a.s.now a.tag 6 c.in-6.is (sym c.right_length.ensures ∙ c.if-not-right_length.false) refl
+    c.mul.ensures ∙ tag_called a.env a.f.contents.now a.f.tag 6 c.in-6.is (sym c.right_length.ensures ∙ c.if-not-right_length.false) refl
 
 pub returns-in_default : goal.returns-in_default
 returns-in_default c =
     let a = c.args in
-    c.refused-in_default.ensures ∙ other_tag a.env a.s.now a.tag (omega arith) (omega arith)
+    other_tag a.env a.f.contents.now a.f.tag (omega arith) (omega arith)
