@@ -13,10 +13,10 @@ use Rattle.log_encoding.specs.AdderSize.{push_scaled_counts}
 use Rattle.log_encoding.specs.LinearSize.{WeightedShape, gather_counts, push_some_counts, sign_counts}
 use Rattle.log_counts.specs.Rules.{Rule, counted_if}
 use Rattle.log_counts.specs.Counted.{CountsHold, CountsUpTo, no_shape, shapes_of, term_shape}
-use Rattle.log_counts.specs.Growth.{Counted, Grown}
+use Rattle.log_counts.specs.Growth.{Grown}
 use Rattle.log_counts.specs.declared.ColumnCounts.{ColumnCounts}
 use Rattle.log_counts.specs.declared.TermShape.{TermShape}
-use Rattle.log_counts.proofs.Growing.{Growing, growing_counted, growing_end, growing_start, growing_turn}
+use Rattle.log_counts.proofs.Growing.{Growing, growing_end, growing_start, growing_turn}
 
 -- The array ----------------------------------------------------------------------------------------------------------
 
@@ -73,9 +73,6 @@ module _ {rule : Rule} {ts : List TermShape} {i : ℕ} {c₀ c : ColumnCounts} (
             growing_turn g.growing (counted_if (rule.test p) p) (rule.all ps) c₁
             (λ hs. ap (λ (qs : List WeightedShape). rule.all qs hs) (shapes_next ts i h) ∙ rule.next p ps hs) (omega arith) r;
       }
-
-  pub terms_counted : length ts ≤ 7 → {hs : List ℕ} → CountsUpTo 0 hs c₀ → Counted 10000 c
-  terms_counted few start = growing_counted g.growing (record { list = _; holds = start }) (omega (arith, g.within))
 
   pub terms_end : length ts ≤ 7 → length ts ≤ i → (hs : List ℕ) → CountsUpTo 0 hs c₀ → CountsHold (rule.all (shapes_of ts) hs) c
   terms_end few h hs start =

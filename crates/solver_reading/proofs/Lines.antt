@@ -86,9 +86,6 @@ behind_feed s b e h =
     let l : length (drop 1 b) ≤ length b - 1 = rw length-drop (omega arith) in
     take_all (length b - 1) (drop 1 b) l ∙ rw (h, drop-drop)
 
-pub line_within : (s : List ℕ) {e : ℕ} {r : Option ℕ} → Place s r → r ≡ Some e → e < length s
-line_within s {e} p h = (place_some s e (sym p ∙ h)).1
-
 module _ (n : ℕ) (r : Run) (s : List ℕ) {g : Run} (left : after_lines n r (split 10 s) ≡ g) where
   pub lines_turn : {e n' : ℕ} {o : Option ℕ} {q : Run} {l t : List ℕ} → Place s o → o ≡ Some e → n' ≡ n → l ≡ take e s → t ≡ drop (e + 1) s → q ≡ after_line n r l
       → after_lines n' q (split 10 t) ≡ g

@@ -23,7 +23,7 @@ use Rattle.encoder_linear.specs.Sums.{argument_checks, sum_encoded, sum_reached}
 use Rattle.encoder_linear.proofs.Added.{arguments_known, arguments_numbered}
 use Rattle.encoder_linear.proofs.Ready.{terms_ready}
 use Rattle.encoder_figures.specs.Figures.{linear_figures, most_entries}
-use Rattle.encoder_figures.proofs.Measured.{measured_few, measured_figures, refused_as}
+use Rattle.encoder_figures.proofs.Measured.{measured_figures, refused_as}
 use Rattle.encoder_figures.proofs.linear_figures.Goals as goal
 use Rattle.encoder_figures.proofs.linear_figures.Goals.{Start}
 
@@ -72,9 +72,6 @@ turned_size-requires-clause-constant_bound c =
     let z = sym c.argument_checks.ensures ∙ ap status c.in_ok-argument_checks.was in
     let k = arguments_known a.env most_entries most_entries a.op (given s) a.terms.now z in
     (omega (arith, k.constant_small), omega (arith, k.constant_small))
-
-pub figures_of-requires : goal.figures_of-requires
-figures_of-requires c = measured_few _ _ c.turned_size.result c.turned_size.ensures
 
 pub returns : goal.returns
 unfolding linear_figures

@@ -16,7 +16,7 @@ use Rattle.encoder_answer.specs.Outcome.{Check}
 use Rattle.encoder_mul.specs.Products.{argument_checks, product_encoded, product_reached}
 use Rattle.encoder_mul.proofs.Ready.{factors_ready}
 use Rattle.encoder_figures.specs.Figures.{most_entries, mul_figures}
-use Rattle.encoder_figures.proofs.Measured.{measured_few, measured_figures, refused_as}
+use Rattle.encoder_figures.proofs.Measured.{measured_figures, refused_as}
 use Rattle.encoder_figures.proofs.mul_figures.Goals as goal
 use Rattle.encoder_figures.proofs.mul_figures.Goals.{Start}
 
@@ -44,9 +44,6 @@ pub mul_size-requires : goal.mul_size-requires
 mul_size-requires c =
     let a = c.args in
     factors_ready a.env most_entries most_entries a.x a.y a.m (sym c.argument_checks.ensures ∙ ap status c.in_ok-argument_checks.was)
-
-pub figures_of-requires : goal.figures_of-requires
-figures_of-requires c = measured_few _ _ c.mul_size.result c.mul_size.ensures
 
 pub returns : goal.returns
 unfolding mul_figures
