@@ -30,7 +30,9 @@ def functions():
                 continue
             indent = m.group(1)
             j = i
-            while not (lines[j] == indent + "}" or lines[j].endswith(";") and j == i):
+            body = False
+            while lines[j] != indent + "}" and not (lines[j].endswith(";") and not body):
+                body = body or lines[j] == indent + "{" or lines[j].endswith(" {") and not re.match(r"\s*(requires|ensures)\b", lines[j])
                 j += 1
             text = lines[i : j + 1]
             clauses = [t for t in text if re.match(r"\s*(requires|ensures)\b", t)]

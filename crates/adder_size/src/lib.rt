@@ -1,12 +1,12 @@
 // The size of the adder of Ne, Ge and products, from how many literals its columns have: each column is walked for its counts.
 #![tactic(auto)]
 
-ghost use Rattle.std.specs.Prelude.{◌≡◌, false, ◌+◌, ◌≤◌, ◌<◌};
+ghost use Rattle.std.specs.Prelude.{◌≡◌, false, length, ◌+◌, ◌≤◌, ◌<◌};
 ghost use Rattle.log_encoding.specs.AdderSize.{input_shapes, reached, reached_past, too_tall};
-ghost use Rattle.adder_size.specs.Counted.{ColumnCounted, Counted, CountedFrom, InBounds};
+ghost use Rattle.adder_size.specs.Counted.{ColumnCounted, Counted, CountedFrom, InBounds, nothing};
 
 use clause_set::Counts;
-use column_walk::walk_column;
+use column_walk::{plus, walk_column};
 
 // The columns so far: bits of the sum, the carries' variables, those of the last carry, clauses and literal entries.
 #[derive(Clone, Copy)]
@@ -17,59 +17,61 @@ pub struct AdderSize {
     pub used: Counts,
 }
 
-// One column more.
-fn with_column(s: AdderSize, own: u32, bit: u32) -> AdderSize
-    requires carry_bound { (own + s.carry ≤ 12) × (bit ≤ 1) × (s.bits < 32) }
-    requires in_bounds { InBounds s }
-    ensures { ColumnCounted own bit s result }
-{
-    let size = walk_column(own, s.carry, bit);
-    let next = (bit + own + s.carry) / 2;
-    let used = s.used;
-    AdderSize {
-        bits: s.bits + 1,
-        carries: s.carries + next,
-        carry: next,
-        used: Counts {
-            clauses: used.clauses + size.clauses,
-            lits: used.lits + size.lits,
-        },
+impl AdderSize {
+    // No column yet.
+    fn none() -> AdderSize
+        ensures { result ≡ nothing }
+    {
+        AdderSize {
+            bits: 0,
+            carries: 0,
+            carry: 0,
+            used: Counts {
+                clauses: 0,
+                lits: 0,
+            },
+        }
+    }
+
+    // One column more.
+    fn with_column(self, own: u32, bit: u32) -> AdderSize
+        requires carry_bound { (own + self.carry ≤ 12) × (bit ≤ 1) × (self.bits < 32) }
+        requires in_bounds { InBounds self }
+        ensures { ColumnCounted own bit self result }
+    {
+        let next = (bit + own + self.carry) / 2;
+        AdderSize {
+            bits: self.bits + 1,
+            carries: self.carries + next,
+            carry: next,
+            used: plus(self.used, walk_column(own, self.carry, bit)),
+        }
+    }
+
+    // Past the columns: as long as there is a carry.
+    fn extended(self) -> AdderSize
+        requires { InBounds self × (self.bits + self.carry ≤ 32) }
+        ensures { CountedFrom self (reached_past self.carry self.carry) result }
+    {
+        let mut s = self;
+        while 0 < s.carry {
+            s = s.with_column(0, 0);
+        }
+        s
     }
 }
 
-// Past the columns: as long as there is a carry.
-fn extended(start: AdderSize) -> AdderSize
-    requires { InBounds start × (start.bits + start.carry ≤ 32) }
-    ensures { CountedFrom start (reached_past start.carry start.carry) result }
+// The columns of so many literals with the bits of a constant, and those past them.
+pub fn adder_size(counts: &[u32], constant: u32) -> AdderSize
+    requires width_bound { length counts.now ≤ 26 }
+    requires constant_value { too_tall (reached (input_shapes (length counts.now) 0 counts.now constant) 0) ≡ false }
+    ensures { Counted (reached (input_shapes (length counts.now) 0 counts.now constant) 0) result }
 {
-    let mut s = start;
-    while 0 < s.carry {
-        s = with_column(s, 0, 0);
-    }
-    s
-}
-
-// The columns with the bits of a constant, and those past them.
-pub fn adder_size(counts: [u32; 32], width: usize, constant: u32) -> AdderSize
-    requires width_bound { width ≤ 26 }
-    requires constant_value { too_tall (reached (input_shapes width 0 counts constant) 0) ≡ false }
-    ensures { Counted (reached (input_shapes width 0 counts constant) 0) result }
-{
-    let mut s = AdderSize {
-        bits: 0,
-        carries: 0,
-        carry: 0,
-        used: Counts {
-            clauses: 0,
-            lits: 0,
-        },
-    };
+    let mut s = AdderSize::none();
     let mut k = constant;
-    let mut i: usize = 0;
-    while i < width {
-        s = with_column(s, counts[i], k % 2);
-        k = k / 2;
-        i += 1;
+    for own in counts {
+        s = s.with_column(*own, k % 2);
+        k /= 2;
     }
-    extended(s)
+    s.extended()
 }

@@ -1,19 +1,17 @@
 -- What adding clauses leaves in the stores: one list after another; a loop that adds.
 use mathlib.Core.Path.{◌≡◌, refl, ap, subst, sym, ◌∙◌}
 use mathlib.Core.List.{List, [], ◌∷◌, ◌++◌, map, map-append}
-use Prim.Native.Nat.{ℕ, suc, ◌+◌, ◌<◌}
+use Prim.Native.Nat.{ℕ, min, suc, zero, ◌-◌, ◌≤◌, ◌+◌, ◌<◌}
 use native.Mathlib.Nat.{add-zero}
 use native.Mathlib.Numerals.{add-one}
 use native.Mathlib.Omega.{arith}
-use lib.ListN.{length, take, get_or, set, length-append, length-map}
-use lib.Seq.{sets, take-suc, length-take-le}
+use lib.ListN.{length, take, get_or, set, length-append, length-map, length-set}
+use lib.Seq.{length-take-le, set_out, sets, take-append_seam, take-suc}
 use Rattle.sat.specs.Size.{entries}
 use Rattle.sat.proofs.Size.{entries_append}
 use Rattle.clause_set.specs.declared.Counts.{Counts}
 use Rattle.sat.specs.declared.Lit.{Lit}
-use Rattle.clause_set.specs.declared.ClauseSet.{ClauseSet}
-use Rattle.std.proofs.Common.{MutBor}
-use Rattle.sat.specs.LitArray.{num}
+use Rattle.sat.specs.LitArray.{first_lits, num}
 use Rattle.clause_set.specs.Stores.{Stores, stores, after, add_clause, add_clauses, Fits}
 
 pub sets_append : (a l : List ℕ) (i : ℕ) (b : List ℕ) → sets l i (a ++ b) ≡ sets (sets l i a) (i + length a) b
@@ -34,9 +32,40 @@ lits_more l i c k h =
     let e : length (map num (take k c)) ≡ k = length-map (take k c) num ∙ length-take-le k c (omega arith) in
     sym (rw (add-one, take-suc c k (record { 0 = 0 }) h, map-append, sets_append, e))
 
--- a set of clauses with another reference to its literals
-pub with_lits : (s t : ClauseSet) (a : MutBor (List ℕ)) → t ≡ record s { lits = t.lits } → record t { lits = a } ≡ record s { lits = a }
-with_lits s t a e = ap (λ (u : ClauseSet). record u { lits = a }) e
+-- past a store's end nothing is stored
+sets_past : (c l : List ℕ) (i : ℕ) → length l ≤ i → sets l i c ≡ l
+sets_past [] l i h = refl
+sets_past (x ∷ c) l i h = rw (set_out l i x h) (sets_past c l (suc i) (omega arith))
+
+-- so those that lie inside are all that count
+sets_fit : (c l : List ℕ) (i k : ℕ) → k ≡ min (length c) (length l - i) → sets l i (take k c) ≡ sets l i c
+sets_fit [] l i zero e = refl
+sets_fit [] l i (suc k) e = refl
+sets_fit (x ∷ c) l i zero e = sym (sets_past (x ∷ c) l i (omega arith))
+sets_fit (x ∷ c) l i (suc k) e = sets_fit c (set l i x) (suc i) k (omega (arith, length-set l i x))
+
+pub lits_fit : (c : List Lit) (l : List ℕ) (i k : ℕ) → k ≡ min (length c) (length l - i) → sets l i (map num (take k c)) ≡ sets l i (map num c)
+lits_fit c l i k e = ap (sets l i) (nums c k) ∙ sets_fit (map num c) l i k (omega (arith, length-map c num))
+  where
+    nums : (c : List Lit) (k : ℕ) → map num (take k c) ≡ take k (map num c)
+    nums c zero = refl
+    nums [] (suc k) = refl
+    nums (x ∷ c) (suc k) = ap (λ (xs : List ℕ). x.0 ∷ xs) (nums c k)
+
+-- fewer of an array's first literals
+pub fewer_lits : (ls : List Lit) (m n : ℕ) → m ≤ n → first_lits ls m ≡ take m (first_lits ls n)
+fewer_lits ls zero n h = refl
+fewer_lits ls (suc m) zero h = absurd (omega arith)
+fewer_lits [] (suc m) (suc n) h = refl
+fewer_lits (l ∷ ls) (suc m) (suc n) h = ap (λ (xs : List ℕ). l.0 ∷ xs) (fewer_lits ls m n (omega arith))
+
+-- an array's first literals without the last of them
+pub but_last : (ls : List Lit) (m n : ℕ) (xs : List ℕ) (x : ℕ) → m + 1 ≡ n → n ≤ length ls → first_lits ls n ≡ xs ++ (x ∷ []) → first_lits ls m ≡ xs
+but_last ls m n xs x e h f =
+    let long : length (first_lits ls n) ≡ n = length-map (take n ls) num ∙ length-take-le n ls h in
+    let more : length (first_lits ls n) ≡ length xs + 1 = ap length f ∙ length-append xs (x ∷ []) in
+    let k : m ≡ length xs = omega arith in
+    fewer_lits ls m n (omega arith) ∙ ap (take m) f ∙ ap (λ j. take j (xs ++ (x ∷ []))) k ∙ take-append_seam xs (x ∷ [])
 
 -- Clauses one after the other ----------------------------------------------------------------------------------------
 

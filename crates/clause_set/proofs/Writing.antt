@@ -1,6 +1,6 @@
 -- What writing leaves in a set of clauses: one list of clauses after another; a loop that writes.
 use mathlib.Core.Path.{◌≡◌, refl, ap, sym, ◌∙◌}
-use mathlib.Core.List.{[], ◌++◌}
+use mathlib.Core.List.{List, [], ◌++◌}
 use Prim.Native.Nat.{ℕ, ◌+◌}
 use native.Mathlib.Omega.{arith}
 use lib.ListN.{length, length-append}
@@ -8,7 +8,8 @@ use Rattle.sat.specs.Clause.{Clauses}
 use Rattle.sat.specs.Size.{entries}
 use Rattle.sat.proofs.Size.{entries_append}
 use Rattle.clause_set.specs.declared.ClauseSet.{ClauseSet}
-use Rattle.clause_set.specs.Stores.{Fits, Stores, Wrote, add_clauses, stores_of}
+use Rattle.clause_set.specs.declared.Counts.{Counts}
+use Rattle.clause_set.specs.Stores.{Fits, Stores, Wrote, add_clauses, after, stores_of}
 use Rattle.clause_set.proofs.Adding.{add_append, count_after, used_after}
 
 pub wrote_nothing : (s : ClauseSet) → Wrote s s.vars [] s
@@ -53,6 +54,17 @@ module _ {s : ClauseSet} {v : ℕ} {cs : Clauses} {t : ClauseSet} (p : Wrote s v
         clauses = omega (arith, f.clauses, length-append cs ds, wrote_clauses);
       }
 
+-- Where a set is made of two slices and given up, the slices have what was written: each is what the reference of its name holds.
+pub given_back : {s : ClauseSet} {v : ℕ} {cs : Clauses} {t : ClauseSet} {d e : List ℕ} → Wrote s v cs t
+    → (s.lits.ghost_name ≡ t.lits.ghost_name → d ≡ t.lits.now) → (s.ends.ghost_name ≡ t.ends.ghost_name → e ≡ t.ends.now)
+    → after d e t.used ≡ add_clauses s.base cs (stores_of s)
+given_back {t = t} w f g =
+    (λ i. after (f (sym w.same_lits) i) (g (sym w.same_ends) i) t.used) ∙ w.stores_are
+
+-- the same clauses written otherwise
+pub fits_as : {b : ℕ} {a : Counts} {cs ds : Clauses} → Fits b a cs → cs ≡ ds → Fits b a ds
+fits_as f e = record { lits = omega (arith, f.lits, ap entries e); clauses = omega (arith, f.clauses, ap length e) }
+
 -- A loop that writes -------------------------------------------------------------------------------------------------
 
 -- What is left to do: s is to get all these clauses, t has some of them, and is to get the rest.
@@ -74,7 +86,7 @@ left_as {s} {t = t} g e =
       same_ends = g.same_ends;
       same_base = g.same_base;
       same = ap (λ xs. add_clauses s.base xs (stores_of t)) (sym e) ∙ g.same;
-      fits = record { lits = omega (arith, g.fits.lits, ap entries e); clauses = omega (arith, g.fits.clauses, ap length e) };
+      fits = fits_as g.fits e;
     }
 
 module _ {s : ClauseSet} {all : Clauses} {t : ClauseSet} (cs rest : Clauses) (g : Left s all t (cs ++ rest)) where

@@ -2,7 +2,7 @@
 // it and stores only what lies inside a store, so that a call that is lent nothing only counts.
 #![tactic(auto)]
 
-ghost use Rattle.std.specs.Prelude.{◌≡◌, false, [], ◌∷◌, ◌++◌, ◌+◌, ◌^◌, ◌≤◌, ◌<◌, get_or, length, map, set};
+ghost use Rattle.std.specs.Prelude.{◌≡◌, ℕ, false, List, [], ◌∷◌, ◌++◌, ◌+◌, ◌^◌, ◌≤◌, ◌<◌, get_or, length, map, set};
 ghost use Rattle.sat.specs.Lit.{as_lit};
 ghost use Rattle.sat.specs.LitArray.{num};
 ghost use Rattle.clause_set.specs.Bytes.{clause_holds, lit_holds};
@@ -49,8 +49,10 @@ impl ClauseSet<'_> {
     {
         let from = self.used.lits;
         let n = clause.len();
-        for (i, l) in clause.iter().enumerate() {
-            put(self.lits, from + i, l.0);
+        let stored = n.min(self.lits.len().saturating_sub(from));
+        let lits = &mut *self.lits;
+        for (i, l) in clause[..stored].iter().enumerate() {
+            lits[from + i] = l.0;
         }
         let k = self.used.clauses;
         put(self.ends, k + 1, self.base + (from + n) as u32);
@@ -94,6 +96,15 @@ impl Clause {
         for l in more {
             self.push(*l);
         }
+    }
+
+    // The last literal left out.
+    pub fn pop(&mut self)
+        requires { (0 < self.old.len) × (self.old.len ≤ 32) }
+        ensures len { self.new.len + 1 ≡ self.old.len }
+        ensures lits { (xs : List ℕ) (x : ℕ) → clause_lits self.old ≡ xs ++ x ∷ [] → clause_lits self.new ≡ xs }
+    {
+        self.len -= 1;
     }
 
     pub fn as_slice(&self) -> &[Lit]

@@ -1,9 +1,9 @@
 // How many clauses and literal entries one column has, by walking its clauses: its writer is lent no store, so it only counts.
 #![tactic(auto)]
 
-ghost use Rattle.std.specs.Prelude.{◌≡◌, ◌+◌, ◌/◌, ◌≤◌};
+ghost use Rattle.std.specs.Prelude.{◌≡◌, ◌+◌, ◌/◌, ◌<◌, ◌^◌, ◌≤◌};
 ghost use Rattle.log_encoding.specs.AdderSize.{column_count, eq_column_count};
-ghost use Rattle.column_walk.specs.Walked.{Walked, any_column};
+ghost use Rattle.column_walk.specs.Walked.{Walked, any_column, plus};
 
 use clause_set::Counts;
 use log_adder::{ColumnInfo, VarRange, push_column};
@@ -31,15 +31,25 @@ fn any_column(own: u32, carries: u32, bit: u32, next: u32) -> ColumnInfo
     }
 }
 
+// Both counts together.
+pub fn plus(a: Counts, b: Counts) -> Counts
+    requires clauses_fit { a.clauses + b.clauses < 2 ^ 64 }
+    requires lits_fit { a.lits + b.lits < 2 ^ 64 }
+    ensures { result ≡ plus a b }
+{
+    Counts {
+        clauses: a.clauses + b.clauses,
+        lits: a.lits + b.lits,
+    }
+}
+
 // A column of the adder of Ne, Ge and products, with a constant bit.
 pub fn walk_column(own: u32, carries: u32, bit: u32) -> Counts
     requires { (own + carries ≤ 12) × (bit ≤ 1) }
     ensures { Walked (λ weigh. column_count weigh own carries bit) result }
 {
-    let mut lits = [0u32; 0];
-    let mut ends = [0u32; 0];
     let c = any_column(own, carries, bit, (bit + own + carries) / 2);
-    push_column(&mut lits, &mut ends, c, 0)
+    push_column(&mut [], &mut [], c, 0)
 }
 
 // A column of Eq: with x its literals add up to y and twice the new carries.
@@ -47,8 +57,6 @@ pub fn walk_eq_column(own: u32, carries: u32, x: u32, next: u32, y: u32) -> Coun
     requires { (own + carries ≤ 12) × (next ≤ 6) }
     ensures { Walked (λ weigh. eq_column_count weigh own carries x next y) result }
 {
-    let mut lits = [0u32; 0];
-    let mut ends = [0u32; 0];
     let c = any_column(own, carries, 0, next);
-    push_eq_column(&mut lits, &mut ends, c, x, y, 0)
+    push_eq_column(&mut [], &mut [], c, x, y, 0)
 }

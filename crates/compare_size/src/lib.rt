@@ -1,34 +1,24 @@
 // The size of Ne and Ge from the sizes of their two sums: no clause is walked.
 #![tactic(auto)]
 
-ghost use Rattle.std.specs.Prelude.{◌≡◌, false, true, min, ◌≤◌};
+ghost use Rattle.std.specs.Prelude.{◌≡◌, false, true, ◌≤◌};
 ghost use Rattle.compare_size.specs.Compared.{Compared, SumReady, last_counts};
 
 use adder_size::AdderSize;
 use clause_set::Counts;
+use column_walk::plus;
 use log_linear::RuleCounts;
-
-// The smaller of two numbers.
-fn smaller(a: u32, b: u32) -> u32
-    ensures { result ≡ min a b }
-{
-    if a < b { a } else { b }
-}
 
 // Ne of sums of p and n bits: a gate of four clauses of three literals for each bit that both have, then one clause of the rest.
 fn ne_counts(p: u32, n: u32) -> Counts
     requires { (p ≤ 32) × (n ≤ 32) }
     ensures { result ≡ last_counts true p n }
 {
-    if p < n {
-        return Counts {
-            clauses: 4 * p as usize + 1,
-            lits: 12 * p as usize + n as usize,
-        };
-    }
+    let both = p.min(n) as usize;
+    let longer = p.max(n) as usize;
     Counts {
-        clauses: 4 * n as usize + 1,
-        lits: 12 * n as usize + p as usize,
+        clauses: 4 * both + 1,
+        lits: 12 * both + longer,
     }
 }
 
@@ -62,7 +52,7 @@ fn ge_counts(p: u32, n: u32) -> Counts
     }
 }
 
-// The last clauses of Ne or Ge.
+// The last clauses of Ne or Ge. The flag stays: it is the rule asked for, and a closure in its place would have to bring the same contract.
 fn last_counts(is_ne: bool, p: u32, n: u32) -> Counts
     requires { (p ≤ 32) × (n ≤ 32) }
     ensures { (result ≡ last_counts is_ne p n) × (result.clauses ≤ 1000) × (result.lits ≤ 1000) }
@@ -79,13 +69,8 @@ pub fn compare_size(is_ne: bool, p: AdderSize, n: AdderSize) -> RuleCounts
     ensures { Compared is_ne p n result }
 {
     let last = last_counts(is_ne, p.bits, n.bits);
-    let used = p.used;
-    let more = n.used;
     RuleCounts {
-        vars: p.carries + p.bits + (n.carries + n.bits) + smaller(p.bits, n.bits),
-        used: Counts {
-            clauses: used.clauses + more.clauses + last.clauses,
-            lits: used.lits + more.lits + last.lits,
-        },
+        vars: p.carries + p.bits + (n.carries + n.bits) + p.bits.min(n.bits),
+        used: plus(plus(p.used, n.used), last),
     }
 }

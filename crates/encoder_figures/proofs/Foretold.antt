@@ -22,9 +22,8 @@ use Rattle.encoder_answer.proofs.Adding.{known}
 use Rattle.encoder_answer.proofs.Statuses.{settled_accepted, settled_refused, stops, then_rest}
 use Rattle.encoder_linear.specs.Sums.{linear_checks}
 use Rattle.encoder_mul.specs.Products.{mul_checks}
-use Rattle.encoder_figures.specs.Figures.{adds, figures_of, linear_figures, most_entries, mul_figures, rule_figures}
+use Rattle.encoder_figures.specs.Figures.{Figures, adds, figures_of, linear_figures, most_entries, mul_figures, rule_figures}
 use Rattle.encoder_figures.specs.Foretells.{Foretells, HasAdded, LinearForetold, MulForetold, OtherThanSpace, size_of}
-use Rattle.encoder_figures.specs.declared.Figures.{Figures}
 use Rattle.encoder_figures.proofs.Numbers.{Between, between_numbered, greatest, number_between, number_of_space}
 
 -- the number of the outcome is that of all checks

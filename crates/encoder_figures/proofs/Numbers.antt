@@ -10,8 +10,7 @@ use Rattle.encoder_env.specs.WellFormed.{well_formed}
 use Rattle.encoder_env.specs.declared.EncoderEnv.{EncoderEnv}
 use Rattle.encoder_env.proofs.Kept.{kept, well_formed_of}
 use Rattle.encoder_answer.specs.Adding.{space_checks}
-use Rattle.encoder_answer.specs.Outcome.{Check, status_of}
-use Rattle.encoder_answer.proofs.Statuses.{Numbered}
+use Rattle.encoder_answer.specs.Outcome.{Check, Numbered, status_of}
 use Rattle.encoder_figures.specs.Figures.{most_entries}
 
 -- a job that is well formed with some stores is so with the greatest

@@ -1,14 +1,23 @@
 -- The figures of a sum and of a product (document 02, #105): what the call would add to a job, before any store is lent.
-use Rattle.std.specs.Prelude.{◌-◌, suc, zero, ℕ, ltb, ℤ, length, ◌&&◌, cond, List, [], ◌∷◌}
+use Rattle.std.specs.Prelude.{◌-◌, suc, zero, ℕ, ℤ, length, List, Option, Some, None, Result, Ok, Err}
 use Rattle.sat.specs.Encoded.{EncodedRule}
 use Rattle.sat.specs.Size.{Size, entries}
 use Rattle.encoder_env.specs.declared.EncoderEnv.{EncoderEnv}
-use Rattle.encoder_env.specs.WellFormed.{well_formed}
-use Rattle.encoder_answer.specs.Outcome.{Check, check, status_of}
+use Rattle.encoder_answer.specs.Outcome.{Check, status_of}
 use Rattle.encoder_linear.specs.Sums.{linear_checks, sum_encoded}
 use Rattle.encoder_mul.specs.Products.{mul_checks, product_encoded}
-use Rattle.terms_size.specs.declared.RuleSize.{RuleSize}
-use Rattle.encoder_figures.specs.declared.Figures.{Figures}
+use Rattle.log_linear.specs.declared.RuleCounts.{RuleCounts}
+use Rattle.refusal.specs.Number.{number}
+use Rattle.refusal.specs.declared.Refusal.{Refusal}
+use Rattle.refusal.specs.declared.Refusal.TheVariants.{ColumnTooTall}
+use Rattle.encoder_figures.specs.declared.Figures.{Figures as Added}
+
+-- the number answered, and what the call would add: new variables, clauses and literal entries
+pub record Figures : Type 0 where
+  pub status : ℕ
+  pub variables : ℕ
+  pub clauses : ℕ
+  pub literals : ℕ
 
 -- the entries of the greatest store
 abbrev pub most_entries : ℕ
@@ -38,15 +47,18 @@ mul_figures env x y m = rule_figures env (λ lits ends. mul_checks env lits ends
 
 -- As the code has them -------------------------------------------------------------------------------------------------
 
--- the checks of a product but for 13
-abbrev pub product_arguments : EncoderEnv → ℕ → ℕ → ℕ → List Check
-product_arguments env x y m =
-    check (well_formed env most_entries most_entries) 1
-    ∷ check (ltb x env.count && ltb y env.count && ltb m env.count) 8
-    ∷ []
+-- what each case says; a refusal has its number and no figures
+abbrev pub figured : Result Added Refusal → Figures
+figured (Ok f) = record { status = 0; variables = f.variables; clauses = f.clauses; literals = f.literals }
+figured (Err e) =
+    record {
+      status = number e;
+      variables = 0;
+      clauses = 0;
+      literals = 0;
+    }
 
 -- a rule measured: 13, or its size
-abbrev pub size_figures : RuleSize → Figures
-size_figures s =
-    cond s.tall (figures_of 13 record { vars = 0; clauses = 0; literals = 0 })
-    (figures_of 0 record { vars = s.size.vars; clauses = s.size.used.clauses; literals = s.size.used.lits })
+abbrev pub size_figures : Option RuleCounts → Result Added Refusal
+size_figures None = Err ColumnTooTall
+size_figures (Some r) = Ok (record { variables = r.vars; clauses = r.used.clauses; literals = r.used.lits })

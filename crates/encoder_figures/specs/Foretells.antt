@@ -7,8 +7,7 @@ use Rattle.encoder_env.specs.declared.EncoderEnv.{EncoderEnv}
 use Rattle.encoder_answer.specs.Outcome.{Outcome}
 use Rattle.encoder_linear.specs.Sums.{linear_outcome, sum_encoded}
 use Rattle.encoder_mul.specs.Products.{mul_outcome, product_encoded}
-use Rattle.encoder_figures.specs.Figures.{linear_figures, most_entries, mul_figures}
-use Rattle.encoder_figures.specs.declared.Figures.{Figures}
+use Rattle.encoder_figures.specs.Figures.{Figures, linear_figures, most_entries, mul_figures}
 
 -- the figures as a size
 abbrev pub size_of : Figures → Size

@@ -27,6 +27,11 @@ pub record InBounds (n : ℕ) (s : CountedColumns) : Type 0 where
   pub returned_clauses : s.returned.clauses ≤ 1048576 * n
   pub returned_lits : s.returned.lits ≤ 15728640 * n
 
+-- before the first column
+abbrev pub start : ℕ → ℕ → CountedColumns
+start x y =
+    record { x = x; y = y; carry = 0; vars = 0; sent = record { clauses = 0; lits = 0 }; returned = record { clauses = 0; lits = 0 } }
+
 -- the constant bit of the next column
 abbrev pub odd_bit : CountedColumns → ℕ
 odd_bit s = (s.x + s.y) % 2

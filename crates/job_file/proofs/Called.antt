@@ -4,22 +4,24 @@ use native.Mathlib.Omega.{arith}
 use mathlib.Core.Path.{◌≡◌, refl, subst}
 use mathlib.Core.Bool.{false, true}
 use mathlib.Core.List.{List}
-use lib.IntN.{pos, ℤ}
+use lib.IntN.{ℤ}
 use lib.ListN.{drop, get_or, length, length-drop, take}
 use lib.Seq.{take_all}
 use Rattle.norm_csp.specs.Domain.{binary, list, range}
 use Rattle.encoder_env.specs.declared.EncoderEnv.{EncoderEnv}
-use Rattle.encoder_answer.specs.declared.Answer.{Answer}
 use Rattle.encoder_read.specs.Calls.{open_outcome}
 use Rattle.encoder_var.specs.Settings.{setting_outcome}
-use Rattle.encoder_answer.specs.Outcome.{Answers, Outcome}
+use Rattle.encoder_answer.specs.Outcome.{Answer, Answers, Outcome, adds}
 use Rattle.encoder_mul.specs.Products.{mul_outcome}
 use Rattle.encoder_linear.specs.Sums.{linear_outcome}
 use Rattle.job_fields.specs.Numbers.{signed_long, signed_word, terms, values, word_at}
 use Rattle.job_fields.specs.Fields.{field, right_length, right_place}
 use Rattle.job_fields.proofs.NumbersRead.{terms_length, values_length}
 use Rattle.job_file.specs.Calls.{call_of, switches_in}
-use Rattle.job_file.specs.Run.{called, field_outcome, state}
+use Rattle.job_file.specs.Run.{Leaves, called, field_outcome, state}
+use Rattle.std.specs.Prelude.{Result, Ok, Err}
+use Rattle.refusal.specs.declared.Refusal.{Refusal}
+use Rattle.refusal.specs.declared.Refusal.TheVariants.{BadField}
 use Rattle.job_file.proofs.Many.{many_terms, many_values}
 
 module _ (env : EncoderEnv) (lits ends s : List ℕ) {a : Answer} {l e : List ℕ} where
@@ -67,23 +69,29 @@ module _ (env : EncoderEnv) (lits ends s : List ℕ) {a : Answer} {l e : List �
   pub tag_called : (t k : ℕ) → t ≡ k → Answers (called (state env lits ends) k s) a l e → Answers (called (state env lits ends) t s) a l e
   tag_called t k p h = rw p h
 
+-- what a call answers is what it leaves
+pub leaves : (given : EncoderEnv) (o : Outcome) (r : Result EncoderEnv Refusal) {l e : List ℕ} → Answers o (adds given r) l e → Leaves o r l e
+leaves given o (Ok job) h = record { number = h.status; job = h.env; lits = h.lits; ends = h.ends }
+leaves given o (Err x) h = record { number = h.status; job = tt; lits = h.lits; ends = h.ends }
+
+module _ (env : EncoderEnv) (lits ends s : List ℕ) {r : Result EncoderEnv Refusal} {l e : List ℕ} where
   -- a field in its right place and of a right length is its call
   pub field_called : (index t : ℕ) → right_place index t ≡ true → right_length t (length s) ≡ true
-      → Answers (called (state env lits ends) t s) a l e → Answers (field_outcome index (state env lits ends) (field t s)) a l e
+      → Leaves (called (state env lits ends) t s) r l e → Leaves (field_outcome index (state env lits ends) (field t s)) r l e
   unfolding field_outcome
   field_called index t p q h = rw (p, q) h
 
 -- else it is refused
-module _ (env : EncoderEnv) (lits ends s : List ℕ) {a : Answer} where
-  pub field_wrong_place : (index t : ℕ) → right_place index t ≡ false → a ≡ record { status = 18; env = env; value = pos 0 }
-      → Answers (field_outcome index (state env lits ends) (field t s)) a lits ends
+module _ (env : EncoderEnv) (lits ends s : List ℕ) where
+  pub field_wrong_place : (index t : ℕ) → right_place index t ≡ false
+      → Leaves (field_outcome index (state env lits ends) (field t s)) (Err BadField) lits ends
   unfolding field_outcome
-  field_wrong_place index t p q = rw (q, p) (record { status = refl; env = refl; value = refl; lits = refl; ends = refl })
+  field_wrong_place index t p = rw p (record { number = refl; job = tt; lits = refl; ends = refl })
 
   pub field_wrong_length : (index t : ℕ) → right_place index t ≡ true → right_length t (length s) ≡ false
-      → a ≡ record { status = 18; env = env; value = pos 0 } → Answers (field_outcome index (state env lits ends) (field t s)) a lits ends
+      → Leaves (field_outcome index (state env lits ends) (field t s)) (Err BadField) lits ends
   unfolding field_outcome
-  field_wrong_length index t p r q = rw (q, p, r) (record { status = refl; env = refl; value = refl; lits = refl; ends = refl })
+  field_wrong_length index t p r = rw (p, r) (record { number = refl; job = tt; lits = refl; ends = refl })
 
 -- the terms behind operation and constant
 pub linear_terms : (s : List ℕ) (xs : List ℤ) → 5 ≤ length s

@@ -1,6 +1,6 @@
 -- The run of a job file: field after field, each on the job and stores that the last one left; the first refusal ends it
 -- (document 01: the job file).
-use Rattle.std.specs.Prelude.{◌+◌, ℕ, eqb, leb, length, ◌&&◌, cond, List, [], ◌∷◌}
+use Rattle.std.specs.Prelude.{◌+◌, ℕ, eqb, leb, length, ◌&&◌, cond, List, [], ◌∷◌, ◌≡◌, IfOk, Result}
 use Rattle.encoder_env.specs.declared.EncoderEnv.{EncoderEnv}
 use Rattle.encoder_read.specs.Calls.{open_outcome, opened}
 use Rattle.encoder_answer.specs.Outcome.{Outcome, refused}
@@ -8,6 +8,9 @@ use Rattle.encoder.specs.Run.{State, left, outcome}
 use Rattle.job_fields.specs.Fields.{Field, broken, field, fields_of, right_length, right_place}
 use Rattle.job_file.specs.Calls.{call_of, switches_in}
 use Rattle.job_file.specs.declared.JobAnswer.{JobAnswer}
+use Rattle.job_file.specs.declared.Left.{Left}
+use Rattle.refusal.specs.Number.{status}
+use Rattle.refusal.specs.declared.Refusal.{Refusal}
 
 -- the field refused and its number, or the number of fields and 0; the job and the stores that the accepted fields left
 pub record JobRun : Type 0 where
@@ -19,7 +22,18 @@ pub record JobRun : Type 0 where
 
 -- the code's answer, with the stores after it
 abbrev pub job_run : JobAnswer → List ℕ → List ℕ → JobRun
-job_run a lits ends = record { field = a.field; status = a.status; env = a.env; lits = lits; ends = ends }
+job_run a lits ends = record { field = a.field; status = status a.answer; env = a.env; lits = lits; ends = ends }
+
+-- what the code has left, with why the next field is refused
+abbrev pub left_run : Left → Result (Unit {0}) Refusal → List ℕ → List ℕ → JobRun
+left_run left r lits ends = record { field = left.field; status = status r; env = left.env; lits = lits; ends = ends }
+
+-- the code leaves the outcome: its number, the job where it is accepted, and the stores
+pub record Leaves (o : Outcome) (r : Result EncoderEnv Refusal) (lits-after ends-after : List ℕ) : Type 0 where
+  pub number : status r ≡ o.status
+  pub job : IfOk r (λ job. job ≡ o.env)
+  pub lits : lits-after ≡ o.lits
+  pub ends : ends-after ≡ o.ends
 
 abbrev pub state : EncoderEnv → List ℕ → List ℕ → State
 state env lits ends = record { env = env; lits = lits; ends = ends }

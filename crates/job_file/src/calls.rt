@@ -1,29 +1,35 @@
 // The call of a field, on the job and the lent stores.
 ghost use Rattle.std.specs.Prelude.{true, ◌≡◌, length, ◌≤◌};
-ghost use Rattle.encoder_read.specs.Calls.{open_outcome};
-ghost use Rattle.encoder_answer.specs.Outcome.{Answers};
+ghost use Rattle.encoder_read.specs.Calls.{open_outcome, opened};
+ghost use Rattle.encoder_answer.specs.Outcome.{Answers, adds};
 ghost use Rattle.job_fields.specs.Fields.{right_length};
 ghost use Rattle.job_file.specs.Calls.{switches_in};
-ghost use Rattle.job_file.specs.Run.{called, state};
+ghost use Rattle.job_file.specs.Run.{Leaves, called, state};
 
-use encoder::{Answer, encode_linear, encode_mul};
+use encoder::{encode_linear, encode_mul};
 use encoder_env::EncoderEnv;
 use job_fields::numbers;
+use refusal::Refusal;
 use sat::Lit;
 
 // Tag 01: switch count.
-fn open(s: &[u8], lits: &mut [u32], ends: &mut [u32]) -> Answer
+fn open(s: &[u8], lits: &mut [u32], ends: &mut [u32]) -> Result<EncoderEnv, Refusal>
     requires { length s.now ≡ 1 }
-    ensures { Answers (open_outcome (switches_in s.now) lits.old ends.old) result lits.new ends.new }
+    ensures { Answers (open_outcome (switches_in s.now) lits.old ends.old) (adds (opened 0) result) lits.new ends.new }
 {
-    let switches = numbers::wide(s[0]);
+    let switches = u32::from(s[0]);
     encoder::open(switches, lits, ends)
 }
 
 // Tag 02: low, high.
-fn range(s: &[u8], env: EncoderEnv, lits: &mut [u32], ends: &mut [u32]) -> Answer
+fn range(
+    s: &[u8],
+    env: EncoderEnv,
+    lits: &mut [u32],
+    ends: &mut [u32],
+) -> Result<EncoderEnv, Refusal>
     requires { length s.now ≡ 4 }
-    ensures { Answers (called (state env lits.old ends.old) 2 s.now) result lits.new ends.new }
+    ensures { Answers (called (state env lits.old ends.old) 2 s.now) (adds env result) lits.new ends.new }
 {
     let low = numbers::signed_word(s, 0);
     let high = numbers::signed_word(s, 2);
@@ -31,8 +37,13 @@ fn range(s: &[u8], env: EncoderEnv, lits: &mut [u32], ends: &mut [u32]) -> Answe
 }
 
 // Tag 03: values. More than 64 are refused whatever they are.
-fn list(s: &[u8], env: EncoderEnv, lits: &mut [u32], ends: &mut [u32]) -> Answer
-    ensures { Answers (called (state env lits.old ends.old) 3 s.now) result lits.new ends.new }
+fn list(
+    s: &[u8],
+    env: EncoderEnv,
+    lits: &mut [u32],
+    ends: &mut [u32],
+) -> Result<EncoderEnv, Refusal>
+    ensures { Answers (called (state env lits.old ends.old) 3 s.now) (adds env result) lits.new ends.new }
 {
     let n = s.len() / 2;
     if 64 < n {
@@ -45,9 +56,14 @@ fn list(s: &[u8], env: EncoderEnv, lits: &mut [u32], ends: &mut [u32]) -> Answer
 }
 
 // Tag 04: switch literal, f, t.
-fn binary(s: &[u8], env: EncoderEnv, lits: &mut [u32], ends: &mut [u32]) -> Answer
+fn binary(
+    s: &[u8],
+    env: EncoderEnv,
+    lits: &mut [u32],
+    ends: &mut [u32],
+) -> Result<EncoderEnv, Refusal>
     requires { length s.now ≡ 6 }
-    ensures { Answers (called (state env lits.old ends.old) 4 s.now) result lits.new ends.new }
+    ensures { Answers (called (state env lits.old ends.old) 4 s.now) (adds env result) lits.new ends.new }
 {
     let cond = numbers::word(s, 0);
     let f = numbers::signed_word(s, 2);
@@ -56,11 +72,16 @@ fn binary(s: &[u8], env: EncoderEnv, lits: &mut [u32], ends: &mut [u32]) -> Answ
 }
 
 // Tag 05: operation, constant, terms. More than six terms are refused whatever they are.
-fn linear(s: &[u8], env: EncoderEnv, lits: &mut [u32], ends: &mut [u32]) -> Answer
+fn linear(
+    s: &[u8],
+    env: EncoderEnv,
+    lits: &mut [u32],
+    ends: &mut [u32],
+) -> Result<EncoderEnv, Refusal>
     requires { 5 ≤ length s.now }
-    ensures { Answers (called (state env lits.old ends.old) 5 s.now) result lits.new ends.new }
+    ensures { Answers (called (state env lits.old ends.old) 5 s.now) (adds env result) lits.new ends.new }
 {
-    let op = numbers::wide(s[0]);
+    let op = u32::from(s[0]);
     let constant = numbers::signed_long(s, 1);
     let n = 2 * ((s.len() - 5) / 3);
     if 12 < n {
@@ -73,20 +94,26 @@ fn linear(s: &[u8], env: EncoderEnv, lits: &mut [u32], ends: &mut [u32]) -> Answ
 }
 
 // Tag 06: x, y, m.
-fn mul(s: &[u8], env: EncoderEnv, lits: &mut [u32], ends: &mut [u32]) -> Answer
+fn mul(s: &[u8], env: EncoderEnv, lits: &mut [u32], ends: &mut [u32]) -> Result<EncoderEnv, Refusal>
     requires { length s.now ≡ 3 }
-    ensures { Answers (called (state env lits.old ends.old) 6 s.now) result lits.new ends.new }
+    ensures { Answers (called (state env lits.old ends.old) 6 s.now) (adds env result) lits.new ends.new }
 {
-    let x = numbers::wide(s[0]);
-    let y = numbers::wide(s[1]);
-    let m = numbers::wide(s[2]);
+    let x = u32::from(s[0]);
+    let y = u32::from(s[1]);
+    let m = u32::from(s[2]);
     encode_mul(env, lits, ends, x, y, m)
 }
 
 // The call of a tag whose contents are of a right length.
-pub fn call(tag: u8, s: &[u8], env: EncoderEnv, lits: &mut [u32], ends: &mut [u32]) -> Answer
+pub fn call(
+    tag: u8,
+    s: &[u8],
+    env: EncoderEnv,
+    lits: &mut [u32],
+    ends: &mut [u32],
+) -> Result<EncoderEnv, Refusal>
     requires { right_length tag (length s.now) ≡ true }
-    ensures { Answers (called (state env lits.old ends.old) tag s.now) result lits.new ends.new }
+    ensures { Leaves (called (state env lits.old ends.old) tag s.now) result lits.new ends.new }
 {
     match tag {
         1 => open(s, lits, ends),

@@ -22,6 +22,10 @@ use Rattle.encoder.proofs.Faithful.{written_known}
 use Rattle.encoder.proofs.Lengths.{open_long, run_long}
 use Rattle.job_file.specs.Accepted.{calls_of, left_by, switches_of}
 use Rattle.job_file.specs.Run.{JobRun, job_run, run_file}
+use Rattle.std.specs.Prelude.{Ok, Err}
+use Rattle.refusal.specs.Number.{number, status}
+use Rattle.refusal.specs.declared.Refusal.{Refusal}
+use Rattle.encoder_answer.proofs.Statuses.{number_some}
 use Rattle.job_file.specs.declared.JobAnswer.{JobAnswer}
 use Rattle.job_file.proofs.AcceptedRun.{accepted_is_run}
 use Rattle.job_print.specs.Print.{FilePrinted, answer_of, file_print, program_print}
@@ -75,10 +79,10 @@ module _ (bytes lits ends : List ℕ) (long-lits : length lits ≤ 8192) (long-e
 
 module _ (bytes lits ends : List ℕ) (a : JobAnswer) (lits₁ ends₁ : List ℕ) (ran : job_run a lits₁ ends₁ ≡ run_file bytes lits ends) where
   -- the literal store of an accepted file is within its bound
-  pub store_within : a.status ≡ 0 → length lits₁ ≤ 16777216
+  pub store_within : status a.answer ≡ 0 → length lits₁ ≤ 16777216
   store_within h = subst (λ (j : JobRun). length j.lits ≤ 16777216) (sym ran) (known bytes lits ends (ap (λ (j : JobRun). j.status) (sym ran) ∙ h)).kept.lits_max
 
-  module _ (field : a.field < 2 ^ 32) (status : a.status < 2 ^ 32) (out after : List ℕ) (r : ℕ) where
+  module _ (field : a.field < 2 ^ 32) (small : status a.answer < 2 ^ 32) (out after : List ℕ) (r : ℕ) where
     abbrev Answered : Type 0
     Answered = FilePrinted bytes lits ends out r lits₁ ends₁ after
 
@@ -86,7 +90,7 @@ module _ (bytes lits ends : List ℕ) (a : JobAnswer) (lits₁ ends₁ : List �
     answered t e p =
         let here : Printed (file_print bytes lits ends) out r after = subst (λ (x : List ℕ). Printed x out r after) (sym e ∙ ap answer_of ran) p in
         let f = subst (λ (j : JobRun). j.field < 2 ^ 32) ran field in
-        let n = subst (λ (j : JobRun). j.status < 2 ^ 32) ran status in
+        let n = subst (λ (j : JobRun). j.status < 2 ^ 32) ran small in
         record {
           printed = here;
           lits_are = ap (λ (j : JobRun). j.lits) ran;
@@ -94,13 +98,15 @@ module _ (bytes lits ends : List ℕ) (a : JobAnswer) (lits₁ ends₁ : List �
           short = λ x y. omega (arith, here.size, text_size bytes lits ends x y f n);
         }
 
-    pub refusal_printed : (a.status ≡ 0 → ⊥) → Printed (refused a.field a.status) out r after → Answered
+    pub refusal_printed : (x : Refusal) → a.answer ≡ Err x → Printed (refused a.field (number x)) out r after → Answered
     unfolding answer_of
-    refusal_printed h p = answered _ (rw (ne_eqb a.status 0 h)) p
+    refusal_printed x is p =
+        let some = number_some x in
+        answered _ (rw (is, ne_eqb (number x) 0 (λ z. omega arith))) p
 
-    pub clauses_printed : a.status ≡ 0 → Printed (print_of a.env lits₁ ends₁) out r after → Answered
+    pub clauses_printed : a.answer ≡ Ok tt → Printed (print_of a.env lits₁ ends₁) out r after → Answered
     unfolding answer_of
-    clauses_printed h p = answered _ (rw h) p
+    clauses_printed is p = answered _ (rw is) p
 
 -- What `print_job` ensures: every text fits -------------------------------------------------------------------------
 

@@ -18,7 +18,7 @@ use Rattle.job_fields.specs.Fields.{fields, fields_of, right_length, right_place
 use Rattle.job_fields.specs.Numbers.{signed, signed_word, word, word_at}
 use Rattle.job_file.specs.Calls.{call_of, switches_in}
 use Rattle.job_file.specs.Run.{called, field_outcome, run_fields, run_file}
-use Rattle.solver_answer.specs.Answer.{assignment, by_verdict, bytes_from, each_given, each_once, ended, is_true, kinds_status, known, numbers, readable, satisfiable, says_satisfiable, solution, solution_status, some_values, times, values_first, verdicts, whole}
+use Rattle.solver_answer.specs.Answer.{assignment, by_verdict, bytes_from, each_given, each_once, ended, is_true, kinds_solution, known, numbers, readable, satisfiable, says_satisfiable, solution, some_values, times, values_first, verdicts, whole}
 use Rattle.solver_answer.specs.Lines.{all_numbers, by_word, is_number, is_positive, kind, kinds, kinds_of, number, numbers_in, same, values_line}
 use Rattle.values_text.specs.Values.{lines_from, setting_line, settings_from, switch_line, switches_from, values_text}
 use Rattle.job_values.specs.Values.{by_answer, by_test, file_values, run_values}
@@ -86,5 +86,5 @@ rows =
     ∷ []
 
 pub rows_hold : map row_of rows ≡ rows
-unfolding run_values by_answer by_test job-readable clauses_readable values_text settings_from switches_from lines_from setting_line switch_line integer decimal digits digits_value refused lit_holds read_answer solution solution_status kinds_status whole readable by_verdict verdicts satisfiable says_satisfiable values_first some_values ended numbers each_given known each_once times assignment bytes_from is_true kinds_of kinds kind by_word values_line all_numbers numbers_in is_number is_positive number same all_digits split run_file run_fields field_outcome called switches_in call_of right_place right_length fields_of fields word word_at signed signed_word neg add_clause pad well_formed stores_within all_below record_holds is_spare encoding_holds bounds_hold lez eqz
+unfolding run_values by_answer by_test job-readable clauses_readable values_text settings_from switches_from lines_from setting_line switch_line integer decimal digits digits_value refused lit_holds read_answer solution kinds_solution whole readable by_verdict verdicts satisfiable says_satisfiable values_first some_values ended numbers each_given known each_once times assignment bytes_from is_true kinds_of kinds kind by_word values_line all_numbers numbers_in is_number is_positive number same all_digits split run_file run_fields field_outcome called switches_in call_of right_place right_length fields_of fields word word_at signed signed_word neg add_clause pad well_formed stores_within all_below record_holds is_spare encoding_holds bounds_hold lez eqz
 rows_hold = refl

@@ -16,16 +16,19 @@ use Rattle.job_file.specs.Run.{JobRun, job_run, run_file}
 use Rattle.job_file.specs.declared.JobAnswer.{JobAnswer}
 use Rattle.solver_answer.specs.Answer.{said}
 use Rattle.solver_answer.specs.declared.Solution.{Solution}
-use Rattle.solver_answer.specs.declared.Solution.TheVariants.{Assignment, Refused, Unsatisfiable}
+use Rattle.solver_answer.specs.declared.Solution.TheVariants.{Assignment, Unsatisfiable}
+use Rattle.std.specs.Prelude.{Result, Ok, Err}
+use Rattle.refusal.specs.Number.{number, status}
+use Rattle.refusal.specs.declared.Refusal.{Refusal}
+use Rattle.encoder_answer.proofs.Statuses.{number_some}
 use Rattle.text.proofs.Laws.{printed, printed_first, write_fits}
 use Rattle.text.specs.Bytes.{Printed, Text as Place, text as text_of, write}
 use Rattle.values_text.proofs.Sizes.{values_fit}
 use Rattle.values_text.specs.Values.{values_text}
-use Rattle.job_values.specs.declared.Values.{Values}
-use Rattle.job_values.specs.declared.Values.TheVariants.{Text}
+use Rattle.job_values.specs.declared.TooLong.{TooLong}
 use Rattle.job_values.specs.Values.{Stands, Told, accepted, answer_to, answer_values, by_answer, by_test, file_values, given, none_line, run_values}
 use Rattle.job_values.proofs.Accepted.{file_formed}
-use Rattle.job_values.proofs.Sizes.{answer_size}
+use Rattle.job_values.proofs.Sizes.{answer_size, number_most}
 
 -- Any text that fits -------------------------------------------------------------------------------------------------
 
@@ -49,14 +52,17 @@ module _ (env : EncoderEnv) (field : ℕ) (lits ends bytes : List ℕ) (status :
   unfolding by_test
   values_stand z well w = rw (← is, z) (written_stands (values_text env lits ends bytes) out after r (omega (arith, values_fit env lits ends bytes well)) same w)
 
-  pub test_refused : (status ≡ 0 → ⊥) → field < 2 ^ 32 → status < 2 ^ 32 → Printed (refused field status) out r after
+  pub test_refused : (e : Refusal) → status ≡ number e → field < 2 ^ 32 → Printed (refused field (number e)) out r after
       → Stands (by_test (accepted field env lits ends) bytes) r after
   unfolding by_test
-  test_refused h f n p = rw (← is, ne_eqb status 0 h) (printed_stands (refused field status) out after r (omega (arith, refused_size field status f n)) same p)
+  test_refused e h f p =
+      let some = number_some e in
+      let most = number_most e in
+      rw (← is, h, ne_eqb (number e) 0 (λ z. omega arith)) (printed_stands (refused field (number e)) out after r (omega (arith, refused_size field (number e) f (omega arith))) same p)
 
 -- By what an answer is read as ---------------------------------------------------------------------------------------
 
-module _ (env : EncoderEnv) (field : ℕ) (lits ends text slice : List ℕ) {s : Solution} {bytes : List ℕ}
+module _ (env : EncoderEnv) (field : ℕ) (lits ends text slice : List ℕ) {s : Result Solution Refusal} {bytes : List ℕ}
     (reads : ReadsAnswer env lits ends text slice s bytes) (long : length slice ≡ env.variables)
     (well : well_formed env (length lits) (length ends) ≡ true) (small : field < 2 ^ 32)
     (out after : List ℕ) (r : ℕ) (room : 1440 ≤ length out) (same : length after ≡ length out) where
@@ -69,50 +75,52 @@ module _ (env : EncoderEnv) (field : ℕ) (lits ends text slice : List ℕ) {s :
   fits : length (answer_values run text) ≤ length out
   fits = omega (arith, answer_size run text well small)
 
-  text_is : (x : Solution) → s ≡ x → by_answer x run text ≡ answer_values run text
+  text_is : (x : Result Solution Refusal) → s ≡ x → by_answer x run text ≡ answer_values run text
   text_is x e =
       let a : answer_to run text ≡ s = subst (λ (k : ℕ). read_answer env (length lits) (length ends) text k ≡ s) long (sym reads.answer) in
-      ap (λ (y : Solution). by_answer y run text) (sym (a ∙ e))
+      ap (λ (y : Result Solution Refusal). by_answer y run text) (sym (a ∙ e))
 
-  pub assigned : s ≡ Assignment → Stands (by_test run bytes) r after → Answered
+  pub assigned : s ≡ Ok Assignment → Stands (by_test run bytes) r after → Answered
   unfolding by_answer said
   assigned e w =
-      let b : bytes ≡ given run text = reads.bytes ∙ ap (λ (x : Solution). (said x (given run text) slice).slice) e in
-      subst (λ (t : List ℕ). Stands t r after) (ap (by_test run) b ∙ text_is Assignment e) w
+      let b : bytes ≡ given run text = reads.bytes ∙ ap (λ (x : Result Solution Refusal). (said x (given run text) slice).slice) e in
+      subst (λ (t : List ℕ). Stands t r after) (ap (by_test run) b ∙ text_is (Ok Assignment) e) w
 
-  pub none_found : s ≡ Unsatisfiable → text_of after r ≡ write (text_of out 0) none_line → Answered
+  pub none_found : s ≡ Ok Unsatisfiable → text_of after r ≡ write (text_of out 0) none_line → Answered
   unfolding by_answer
-  none_found e w = written_stands (answer_values run text) out after r fits same (w ∙ ap (write (text_of out 0)) (text_is Unsatisfiable e))
+  none_found e w = written_stands (answer_values run text) out after r fits same (w ∙ ap (write (text_of out 0)) (text_is (Ok Unsatisfiable) e))
 
-  pub answer_refused : (n : ℕ) → s ≡ Refused n → Printed (refused field n) out r after → Answered
+  pub answer_refused : (x : Refusal) → s ≡ Err x → Printed (refused field (number x)) out r after → Answered
   unfolding by_answer
-  answer_refused n e p =
-      printed_stands (answer_values run text) out after r fits same (subst (λ (t : List ℕ). Printed t out r after) (text_is (Refused n) e) p)
+  answer_refused x e p =
+      printed_stands (answer_values run text) out after r fits same (subst (λ (t : List ℕ). Printed t out r after) (text_is (Err x) e) p)
 
 -- By how the file was run --------------------------------------------------------------------------------------------
 
 module _ (file lits ends text : List ℕ) (a : JobAnswer) (lits₁ ends₁ : List ℕ) (ran : job_run a lits₁ ends₁ ≡ run_file file lits ends) where
   -- an accepted file leaves a job that is well formed
-  pub left_formed : a.status ≡ 0 → well_formed a.env (length lits₁) (length ends₁) ≡ true
+  pub left_formed : status a.answer ≡ 0 → well_formed a.env (length lits₁) (length ends₁) ≡ true
   left_formed h =
       subst (λ (j : JobRun). well_formed j.env (length j.lits) (length j.ends) ≡ true) (sym ran)
       (file_formed file lits ends (ap (λ (j : JobRun). j.status) (sym ran) ∙ h))
 
   module _ (out after : List ℕ) (r : ℕ) where
-    pub file_answered : a.status ≡ 0 → Stands (answer_values (accepted a.field a.env lits₁ ends₁) text) r after
+    pub file_answered : status a.answer ≡ 0 → Stands (answer_values (accepted a.field a.env lits₁ ends₁) text) r after
         → Stands (file_values file lits ends text) r after
     unfolding run_values
     file_answered h p = subst (λ (j : JobRun). Stands (run_values j text) r after) ran (rw h p)
 
-    pub file_refused : (a.status ≡ 0 → ⊥) → a.field < 2 ^ 32 → a.status < 2 ^ 32 → 1440 ≤ length out → length after ≡ length out
-        → Printed (refused a.field a.status) out r after → Stands (file_values file lits ends text) r after
+    pub file_refused : (x : Refusal) → a.answer ≡ Err x → a.field < 2 ^ 32 → 1440 ≤ length out → length after ≡ length out
+        → Printed (refused a.field (number x)) out r after → Stands (file_values file lits ends text) r after
     unfolding run_values
-    file_refused h f n room same p =
+    file_refused x is f room same p =
+        let some = number_some x in
+        let most = number_most x in
         subst (λ (j : JobRun). Stands (run_values j text) r after) ran
-        (rw (ne_eqb a.status 0 h) (printed_stands (refused a.field a.status) out after r (omega (arith, refused_size a.field a.status f n)) same p))
+        (rw (is, ne_eqb (number x) 0 (λ z. omega arith)) (printed_stands (refused a.field (number x)) out after r (omega (arith, refused_size a.field (number x) f (omega arith))) same p))
 
 -- What a caller knows of a text: it is within the slice ----------------------------------------------------------------
 
-pub text_within : (v : Values) (r : ℕ) (file text out after : List ℕ) → v ≡ Text r → Told v file text out after → r ≤ length after
+pub text_within : (v : Result ℕ TooLong) (r : ℕ) (file text out after : List ℕ) → v ≡ Ok r → Told v file text out after → r ≤ length after
 unfolding Told
-text_within v r file text out after e h = (subst (λ (w : Values). Told w file text out after) e h).1.within
+text_within v r file text out after e h = (subst (λ (w : Result ℕ TooLong). Told w file text out after) e h).1.within

@@ -1,5 +1,5 @@
 -- What is known of the values printed.
-use Rattle.std.specs.Prelude.{◌<◌, ◌^◌, ◌≤◌, ℕ, length, cond, true, List, ◌++◌, ◌≡◌}
+use Rattle.std.specs.Prelude.{◌<◌, ◌^◌, ◌≤◌, ℕ, length, cond, true, List, ◌++◌, ◌≡◌, Ok}
 use Rattle.clause_set.specs.Bytes.{all_hold}
 use Rattle.norm_csp.specs.NormCsp.{Meets, NormCsp, Valuation, number_of, switch_of}
 use Rattle.encoder.specs.Faithful.{ReadsBack, written}
@@ -30,13 +30,13 @@ pub record AllRead (r : JobRun) (text : List ℕ) : Type 0 where
 abbrev pub ValuesRead : Type 0
 ValuesRead =
     (file lits ends text : List ℕ) → (let r = run_file file lits ends in
-    r.status ≡ 0 → answer_to r text ≡ Assignment → Holds r text → AllRead r text)
+    r.status ≡ 0 → answer_to r text ≡ Ok Assignment → Holds r text → AllRead r text)
 
 -- where it leaves a clause unsatisfied, nothing but `refused F 21` is printed (#104)
 abbrev pub ValuesRefused : Type 0
 ValuesRefused =
     (file lits ends text : List ℕ) → (let r = run_file file lits ends in
-    r.status ≡ 0 → answer_to r text ≡ Assignment → ¬ (Holds r text) → run_values r text ≡ refused r.field 21)
+    r.status ≡ 0 → answer_to r text ≡ Ok Assignment → ¬ (Holds r text) → run_values r text ≡ refused r.field 21)
 
 -- where a file is accepted and what the answer gives satisfies its clauses, it reads back as a choice that meets the file's book
 abbrev pub ValuesMeet : Type 0
@@ -55,5 +55,5 @@ choice_text b ch =
 abbrev pub ValuesPrinted : Type 0
 ValuesPrinted =
     (file lits ends text : List ℕ) → (let r = run_file file lits ends in
-    r.status ≡ 0 → answer_to r text ≡ Assignment → Holds r text
+    r.status ≡ 0 → answer_to r text ≡ Ok Assignment → Holds r text
     → (ch : Valuation) × Meets (book_of file) ch × (file_values file lits ends text ≡ choice_text (book_of file) ch))

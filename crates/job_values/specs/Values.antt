@@ -1,5 +1,5 @@
 -- What the program prints for a job file and a solver's answer to its clauses (document 02, #103 and #104).
-use Rattle.std.specs.Prelude.{◌<◌, ◌≤◌, ℕ, eqb, length, replicate, take, cond, List, [], ◌∷◌, ◌≡◌}
+use Rattle.std.specs.Prelude.{◌<◌, ◌≤◌, ℕ, eqb, length, replicate, take, cond, List, [], ◌∷◌, ◌≡◌, Result, Ok, Err}
 use Rattle.dimacs.specs.Dimacs.{refused}
 use Rattle.encoder_env.specs.declared.EncoderEnv.{EncoderEnv}
 use Rattle.encoder_read.specs.Calls.{test_status}
@@ -7,10 +7,11 @@ use Rattle.encoder_solution.specs.Answers.{read_answer}
 use Rattle.job_file.specs.Run.{JobRun, run_file}
 use Rattle.solver_answer.specs.Answer.{assignment}
 use Rattle.solver_answer.specs.declared.Solution.{Solution}
-use Rattle.solver_answer.specs.declared.Solution.TheVariants.{Assignment, Refused, Unsatisfiable}
+use Rattle.solver_answer.specs.declared.Solution.TheVariants.{Assignment, Unsatisfiable}
+use Rattle.refusal.specs.Number.{number}
+use Rattle.refusal.specs.declared.Refusal.{Refusal}
 use Rattle.values_text.specs.Values.{values_text}
-use Rattle.job_values.specs.declared.Values.{Values}
-use Rattle.job_values.specs.declared.Values.TheVariants.{Text, TooLong}
+use Rattle.job_values.specs.declared.TooLong.{TooLong}
 
 -- The text -----------------------------------------------------------------------------------------------------------
 
@@ -23,7 +24,7 @@ abbrev pub given : JobRun → List ℕ → List ℕ
 given r text = assignment r.env.variables text
 
 -- what an answer to an accepted file comes to, read into a slice as long as the variable count
-abbrev pub answer_to : JobRun → List ℕ → Solution
+abbrev pub answer_to : JobRun → List ℕ → Result Solution Refusal
 answer_to r text = read_answer r.env (length r.lits) (length r.ends) text r.env.variables
 
 -- the number of the test that the file's clauses are put to under these bytes (#104)
@@ -35,10 +36,10 @@ unfoldable pub by_test : JobRun → List ℕ → List ℕ
 by_test r bytes = cond (eqb (tested r bytes) 0) (values_text r.env r.lits r.ends bytes) (refused r.field (tested r bytes))
 
 -- the values, `none`, or `refused F N` with the answer's own number; F is then the number of fields
-unfoldable pub by_answer : Solution → JobRun → List ℕ → List ℕ
-by_answer Assignment r text = by_test r (given r text)
-by_answer Unsatisfiable r text = none_line
-by_answer (Refused n) r text = refused r.field n
+unfoldable pub by_answer : Result Solution Refusal → JobRun → List ℕ → List ℕ
+by_answer (Ok Assignment) r text = by_test r (given r text)
+by_answer (Ok Unsatisfiable) r text = none_line
+by_answer (Err e) r text = refused r.field (number e)
 
 -- the text of an answer to an accepted file
 abbrev pub answer_values : JobRun → List ℕ → List ℕ
@@ -67,16 +68,7 @@ pub record Stands (t : List ℕ) (r : ℕ) (slice : List ℕ) : Type 0 where
   pub within : r ≤ length slice
   pub bytes : take r slice ≡ t
 
--- The first n bytes of one buffer are the file, the first m of another the answer. Either is one byte longer than what it may hold, so
--- that one too long is seen. Every text has room.
-pub record Buffers (file : List ℕ) (n : ℕ) (answer : List ℕ) (m : ℕ) (out : List ℕ) : Type 0 where
-  pub file_long : 8193 ≤ length file
-  pub file_read : n ≤ length file
-  pub answer_long : 1048577 ≤ length answer
-  pub answer_read : m ≤ length answer
-  pub room : 1440 ≤ length out
-
 -- what each case says of a file and an answer: its text stands in the slice; or the answer is too long, and the slice is as it was
-unfoldable pub Told : Values → List ℕ → List ℕ → List ℕ → List ℕ → Type 0
-Told (Text r) file text out after = (length text ≤ 1048576) × Stands (program_values file text) r after
-Told TooLong file text out after = (1048576 < length text) × (after ≡ out)
+unfoldable pub Told : Result ℕ TooLong → List ℕ → List ℕ → List ℕ → List ℕ → Type 0
+Told (Ok r) file text out after = (length text ≤ 1048576) × Stands (program_values file text) r after
+Told (Err e) file text out after = (1048576 < length text) × (after ≡ out)

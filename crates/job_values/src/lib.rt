@@ -1,30 +1,29 @@
 // The values that a solver's answer gives to the settings and switches of a job file, as text.
 #![tactic(auto)]
 
-ghost use Rattle.std.specs.Prelude.{true, ◌≡◌, ◌≤◌, length, take};
+ghost use Rattle.std.specs.Prelude.{true, ◌≡◌, ◌≤◌, length};
 ghost use Rattle.encoder_env.specs.WellFormed.{well_formed};
-ghost use Rattle.job_values.specs.Values.{Buffers, Stands, Told, accepted, answer_values, by_test, file_values, program_values};
+ghost use Rattle.text.specs.Bytes.{text, write};
+ghost use Rattle.job_values.specs.Values.{Stands, Told, accepted, answer_values, by_test, file_values, none_line, program_values};
 
 use encoder_env::EncoderEnv;
 use solver_answer::Solution;
+use text::Writer;
 
-// What a print comes to: how many bytes of text stand at the start of the slice, or that the answer is longer than 1,048,576 bytes.
-#[derive(Clone, Copy)]
-pub enum Values {
-    Text(usize),
-    TooLong,
-}
+// An answer of more than 1,048,576 bytes.
+#[derive(Clone, Copy, Debug, PartialEq, Eq)]
+pub struct TooLong;
 
-// Prints the values that the first m bytes of `answer` give to the job file in the first n bytes of `file`. An answer that is too long
-// is told before the file is run.
-pub fn print_values(file: &[u8], n: usize, answer: &[u8], m: usize, out: &mut [u8]) -> Values
-    requires { Buffers file.now n answer.now m out.old }
-    ensures { Told result (take n file.now) (take m answer.now) out.old out.new }
+// Prints the values that a solver's answer gives to a job file at the start of `out`, and answers how many bytes they have. An answer that is
+// too long is told before the file is run.
+pub fn print_values(file: &[u8], answer: &[u8], out: &mut [u8]) -> Result<usize, TooLong>
+    requires { 1440 ≤ length out.old }
+    ensures { Told result file.now answer.now out.old out.new }
 {
-    if 1048576 < m {
-        return Values::TooLong;
+    if 1048576 < answer.len() {
+        return Err(TooLong);
     }
-    Values::Text(put_program_values(&file[..n], &answer[..m], out))
+    Ok(put_program_values(file, answer, out))
 }
 
 // The text on the program's own stores.
@@ -49,12 +48,10 @@ fn put_file_values(
     ensures { Stands (file_values file.now lits.old ends.old answer.now) result out.new }
 {
     let a = job_file::run(file, lits, ends);
-    let status = a.status;
-    if status != 0 {
-        return dimacs::print_refused(out, a.field, status);
+    match a.answer {
+        Ok(()) => put_job_values(a.env, a.field, lits, ends, answer, out),
+        Err(e) => dimacs::print_refused(out, a.field, e.number()),
     }
-    let env = a.env;
-    put_job_values(env, a.field, lits, ends, answer, out)
 }
 
 // The text of an answer to a job that its file left. A job has at most 65,535 variables.
@@ -87,12 +84,20 @@ fn put_answer_values(
     requires { (well_formed env (length lits.now) (length ends.now) ≡ true) × (length assignment.old ≡ env.variables) × (1440 ≤ length out.old) }
     ensures { Stands (answer_values (accepted field env lits.now ends.now) answer.now) result out.new }
 {
-    let solution = encoder_solution::read_answer(env, lits, ends, answer, assignment);
-    match solution {
-        Solution::Assignment => put_tested_values(env, field, lits, ends, assignment, out),
-        Solution::Unsatisfiable => text::put_bytes(out, 0, b"none\n"),
-        Solution::Refused(number) => dimacs::print_refused(out, field, number),
+    match encoder_solution::read_answer(env, lits, ends, answer, assignment) {
+        Ok(Solution::Assignment) => put_tested_values(env, field, lits, ends, assignment, out),
+        Ok(Solution::Unsatisfiable) => put_none(out),
+        Err(e) => dimacs::print_refused(out, field, e.number()),
     }
+}
+
+// The line of an answer that finds no assignment.
+fn put_none(out: &mut [u8]) -> usize
+    ensures { text out.new result ≡ write (text out.old 0) none_line }
+{
+    let mut w = Writer::new(out);
+    w.put_bytes(b"none\n");
+    w.at
 }
 
 // The values under an assignment that satisfies every clause, else its refusal.
@@ -108,8 +113,8 @@ fn put_tested_values(
     ensures { Stands (by_test (accepted field env lits.now ends.now) assignment.now) result out.new }
 {
     let tested = encoder_read::test_assignment(env, lits, ends, assignment);
-    if tested != 0 {
-        return dimacs::print_refused(out, field, tested);
+    if let Err(e) = tested {
+        return dimacs::print_refused(out, field, e.number());
     }
     values_text::put_values(out, env, lits, ends, assignment)
 }

@@ -8,7 +8,7 @@ ghost use Rattle.log_adder.specs.AdderState.{AdderAdded, AdderFits, ColumnAdded,
 ghost use Rattle.log_adder.specs.ColumnInfo.{ColumnSized, column_clauses, column_infos, lit_info, range_info};
 ghost use Rattle.log_encoding.specs.AdderSize.{greatest_height, input_shapes, reached, too_tall};
 
-use clause_set::Counts;
+use clause_set::{ClauseSet, Counts};
 use mixed::LinearInfo;
 use sat::{Lit, Var};
 
@@ -91,25 +91,22 @@ pub fn push_column(lits: &mut [u32], ends: &mut [u32], c: ColumnInfo, base: u32)
     requires base_bound { base < 2 ^ 31 }
     ensures { after lits.new ends.new result ≡ add_clauses base (column_clauses c) (stores lits.old ends.old 0 0) }
 {
-    let none = Counts {
-        clauses: 0,
-        lits: 0,
-    };
-    let carry = c.carry;
-    let next = c.next;
-    let high = c.height as u64 + carry.count as u64;
-    let total = high + 2 * next.count as u64 + 1;
-    mixed::encode_linear_eq_mixed_from_info(
+    let mut set = ClauseSet {
         lits,
         ends,
-        infos(c),
-        c.height as usize + 3,
-        c.bit as u64 + high,
-        0,
-        total,
         base,
-        none,
-    )
+        vars: 0,
+        used: Counts {
+            clauses: 0,
+            lits: 0,
+        },
+    };
+    let high = c.height as u64 + c.carry.count as u64;
+    let total = high + 2 * c.next.count as u64 + 1;
+    let above = c.bit as u64 + high;
+    let n = c.height as usize + 3;
+    mixed::encode_linear_eq_mixed_from_info(&mut set, infos(c), n, above, 0, total);
+    set.used
 }
 
 // What a column has of its own: literals and how many, the constant bit, and its result, if one is given.

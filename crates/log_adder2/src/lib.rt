@@ -12,7 +12,7 @@ ghost use Rattle.log_encoding.specs.AdderSize.{eq_reached, greatest_height, too_
 ghost use Rattle.log_adder2.specs.EqState.{CarriesOrdered, EqAdded, EqColumnReady, EqFits, Wrote, carries, carry_of, columns_clauses, eq_carry_count, eq_column_clauses, eq_output, next_state, no_vars, target_bit, with_carry};
 ghost use Rattle.log_adder2.specs.declared.Column.TheVariants.{Carry, Dead};
 
-use clause_set::Counts;
+use clause_set::{ClauseSet, Counts};
 use log_adder::{ColumnInfo, VarRange, higher};
 use sat::{Lit, Var};
 
@@ -99,25 +99,23 @@ pub fn push_eq_column(
     requires base_bound { base < 2 ^ 31 }
     ensures { after lits.new ends.new result ≡ add_clauses base (eq_column_clauses c x y) (stores lits.old ends.old 0 0) }
 {
-    let none = Counts {
-        clauses: 0,
-        lits: 0,
-    };
-    let carry = c.carry;
-    let next = c.next;
-    let high = c.height as u64 + carry.count as u64;
-    let total = high + 2 * next.count as u64;
-    mixed::encode_linear_eq_mixed_from_info(
+    let mut set = ClauseSet {
         lits,
         ends,
-        log_adder::infos(c),
-        c.height as usize + 2,
-        x as u64 + high,
-        y as u64,
-        total,
         base,
-        none,
-    )
+        vars: 0,
+        used: Counts {
+            clauses: 0,
+            lits: 0,
+        },
+    };
+    let high = c.height as u64 + c.carry.count as u64;
+    let total = high + 2 * c.next.count as u64;
+    let above = x as u64 + high;
+    let n = c.height as usize + 2;
+    let ts = log_adder::infos(c);
+    mixed::encode_linear_eq_mixed_from_info(&mut set, ts, n, above, y as u64, total);
+    set.used
 }
 
 // The ordering clauses of a column's carry, and the state after it.

@@ -19,6 +19,13 @@ up_to e h =
 grown_none : (k : ℕ) {c : ColumnCounts} → Grown k (λ hs. hs) c c
 grown_none k = record { holds = λ m hs h. up_to (omega arith) h }
 
+-- what is counted after a step, whichever list that is
+pub counted_more : {m k n : ℕ} {f : List ℕ → List ℕ} {c r : ColumnCounts} → Counted m c → Grown k f c r → m + k ≤ n → Counted n r
+counted_more {m} {k} {n} {f} h g e = record { list = f h.list; holds = up_to e (g.holds m h.list h.holds) }
+
+pub counted_same : {m n : ℕ} {c : ColumnCounts} → Counted m c → m ≤ n → Counted n c
+counted_same h e = record { list = h.list; holds = up_to e h.holds }
+
 -- pushed where a test holds
 pub grown_where : {k : ℕ} {t : Bool} {c r : ColumnCounts} (f : List ℕ → List ℕ) → t ≡ true → Grown k f c r → Grown k (λ hs. cond t (f hs) hs) c r
 grown_where f e p = rw e p

@@ -73,6 +73,12 @@ pad_length (suc n) [] = omega (arith, pad_length n [])
 pad_length zero (h ∷ hs) = omega (arith, pad_length zero hs)
 pad_length (suc n) (h ∷ hs) = omega (arith, pad_length n hs)
 
+-- the columns in use make the same columns
+pub taken_input : (w k : ℕ) (xs : List ℕ) → w ≤ length xs → input_shapes (length (take w xs)) 0 (take w xs) k ≡ input_shapes w 0 xs k
+taken_input w k xs h =
+    let n = length-take-le w xs h in
+    ap (λ (m : ℕ). input_shapes m 0 (take w xs) k) n ∙ input_same w 0 0 k (take w xs) xs (λ i l. get_or-take w xs (0 + i) 0 (omega arith))
+
 -- The counts held ----------------------------------------------------------------------------------------------------
 
 module _ {hs : List ℕ} {c : ColumnCounts} (held : CountsHold hs c) where

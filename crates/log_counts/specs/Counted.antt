@@ -1,5 +1,5 @@
 -- The terms of a sum by their numbers, and the literals counted by columns, as the code holds them.
-use Rattle.std.specs.Prelude.{ℕ, ◌≤◌, ◌<◌, ◌≡◌, false, List, map, get_or, length, take}
+use Rattle.std.specs.Prelude.{ℕ, ◌≤◌, ◌<◌, ◌≡◌, false, List, map, get_or, length}
 use Rattle.arithmetic.specs.Bits.{shl}
 use Rattle.log_encoding.specs.LinearSize.{WeightedShape}
 use Rattle.log_counts.specs.declared.ColumnCounts.{ColumnCounts}
@@ -7,7 +7,7 @@ use Rattle.log_counts.specs.declared.TermShape.{TermShape}
 
 -- Terms --------------------------------------------------------------------------------------------------------------
 
--- a place that is not in use
+-- a term without bits
 abbrev pub no_shape : TermShape
 no_shape = record { negative = false; coef = 0; bits = 0 }
 
@@ -15,18 +15,18 @@ no_shape = record { negative = false; coef = 0; bits = 0 }
 abbrev pub term_shape : TermShape → WeightedShape
 term_shape t = record { negative = t.negative; coef = t.coef; bits = t.bits }
 
--- the terms in use
-abbrev pub shapes_of : List TermShape → ℕ → List WeightedShape
-shapes_of ts n = map term_shape (take n ts)
+-- all terms
+abbrev pub shapes_of : List TermShape → List WeightedShape
+shapes_of ts = map term_shape ts
 
 -- a term within bounds: all its bits come to less than 2 ^ 25
 pub record ShapeFits (t : TermShape) : Type 0 where
   pub reach : shl t.bits t.coef < 33554432
 
 -- up to seven terms within bounds
-pub record ShapesFit (ts : List TermShape) (n : ℕ) : Type 0 where
-  pub few : n ≤ 7
-  pub fits : (i : ℕ) → i < n → ShapeFits (get_or ts i no_shape)
+pub record ShapesFit (ts : List TermShape) : Type 0 where
+  pub few : length ts ≤ 7
+  pub fits : (i : ℕ) → i < length ts → ShapeFits (get_or ts i no_shape)
 
 -- Columns ------------------------------------------------------------------------------------------------------------
 

@@ -1,15 +1,15 @@
 // How many literals each column gets, from bit counts and coefficients alone: of the terms of a sum, and of the rows of a product.
 #![tactic(auto)]
 
-ghost use Rattle.std.specs.Prelude.{◌≡◌, [], ◌∷◌, ◌+◌, ◌-◌, ◌*◌, ◌≤◌, ◌<◌};
+ghost use Rattle.std.specs.Prelude.{◌≡◌, Bool, [], ◌∷◌, ◌+◌, ◌-◌, ◌*◌, ◌≤◌, ◌<◌, replicate, take};
 ghost use Rattle.arithmetic.specs.Bits.{shl};
 ghost use Rattle.log_encoding.specs.AdderSize.{push_counts, push_scaled_counts};
 ghost use Rattle.log_encoding.specs.LinearSize.{gather_counts, negated_bits, sign_counts};
 ghost use Rattle.log_encoding.specs.MulSize.{rows_counts};
-ghost use Rattle.log_counts.specs.Counted.{CountsHold, ShapesFit, shapes_of};
+ghost use Rattle.log_counts.specs.Counted.{CountsHold, ShapesFit, shapes_of, term_shape};
+ghost use Rattle.log_counts.specs.Rules.{Rule};
+ghost use Rattle.log_counts.specs.declared.TermShape.{TermShape};
 ghost use Rattle.log_counts.specs.Growth.{Counted, Grown};
-
-use log_gather::larger;
 
 // The numbers of a term.
 #[derive(Clone, Copy)]
@@ -19,6 +19,20 @@ pub struct TermShape {
     pub bits: usize,
 }
 
+impl TermShape {
+    // What its bits come to, all set, with its coefficient.
+    fn all_bits(self) -> u32
+        requires { shl self.bits self.coef < 33554432 }
+        ensures { (result ≡ self.coef * (shl self.bits 1 - 1)) × (result < 33554432) }
+    {
+        let mut x: u32 = 0;
+        for _i in 0..self.bits {
+            x = 2 * x + self.coef;
+        }
+        x
+    }
+}
+
 // How many literals each column has, and how many columns there are.
 #[derive(Clone, Copy)]
 pub struct ColumnCounts {
@@ -26,109 +40,99 @@ pub struct ColumnCounts {
     pub width: usize,
 }
 
-// One literal more in each of the n columns from `from` on.
-fn push_counts(c: ColumnCounts, from: usize, n: usize) -> ColumnCounts
-    requires { (from + n ≤ 25) × Counted 1000000 c }
-    ensures { Grown 25 (push_counts from n) c result }
-{
-    let mut counts = c.counts;
-    let mut j: usize = 0;
-    while j < n {
-        let w = from + j;
-        counts[w] = counts[w] + 1;
-        j += 1;
+impl ColumnCounts {
+    // So many columns of no literal.
+    fn none(width: usize) -> ColumnCounts
+        ensures { result ≡ record { counts = replicate 32 0; width = width } }
+    {
+        ColumnCounts {
+            counts: [0; 32],
+            width,
+        }
     }
-    ColumnCounts {
-        counts: counts,
-        width: larger(c.width, from + n),
+
+    // One literal more in each of the n columns from `from` on.
+    fn push(self, from: usize, n: usize) -> ColumnCounts
+        requires { (from + n ≤ 25) × Counted 1000000 self }
+        ensures { Grown 25 (push_counts from n) self result }
+    {
+        let mut counts = self.counts;
+        for w in from..from + n {
+            counts[w] += 1;
+        }
+        ColumnCounts {
+            counts,
+            width: self.width.max(from + n),
+        }
+    }
+
+    // A term's n bits, once for each bit of its coefficient.
+    fn push_scaled(self, coef: u32, n: usize) -> ColumnCounts
+        requires { (shl n coef < 33554432) × Counted 10000 self }
+        ensures { Grown 300 (push_scaled_counts 12 coef 0 n) self result }
+    {
+        let mut out = self;
+        let mut k = coef;
+        for s in 0..12 {
+            if k % 2 == 1 {
+                out = out.push(s, n);
+            }
+            k /= 2;
+        }
+        out
+    }
+
+    // The columns in use.
+    pub fn columns(&self) -> &[u32]
+        requires { self.now.width ≤ 32 }
+        ensures { result.now ≡ take self.now.width self.now.counts }
+    {
+        &self.counts[..self.width]
     }
 }
 
-// A term's n bits, once for each bit of its coefficient.
-fn push_scaled_counts(c: ColumnCounts, coef: u32, n: usize) -> ColumnCounts
-    requires { (shl n coef < 33554432) × Counted 10000 c }
-    ensures { Grown 300 (push_scaled_counts 12 coef 0 n) c result }
+// The terms that are chosen, in at least so many columns.
+fn counts_of<F: Fn(TermShape) -> bool>(ts: &[TermShape], width: usize, chosen: F) -> ColumnCounts
+    requires shapes_fit { ShapesFit ts.now }
+    requires width_bound { width ≤ 25 }
+    requires callable { F.IsAlwaysCallable chosen }
+    ensures { (rule : Rule) → ((t : TermShape) (b : Bool) → F.post chosen t b → b ≡ rule.test (term_shape t)) → CountsHold (rule.all (shapes_of ts.now) (replicate width 0)) result }
 {
-    let mut out = c;
-    let mut k = coef;
-    let mut s: usize = 0;
-    while s < 12 {
-        if k % 2 == 1 {
-            out = push_counts(out, s, n);
+    let mut c = ColumnCounts::none(width);
+    for t in ts {
+        if chosen(*t) {
+            c = c.push_scaled(t.coef, t.bits);
         }
-        k = k / 2;
-        s += 1;
     }
-    out
+    c
 }
 
 // Ne and Ge: the terms of one sign, in at least one column.
-pub fn sign_counts(ts: [TermShape; 7], n: usize, sign: bool) -> ColumnCounts
-    requires { ShapesFit ts n }
-    ensures { CountsHold (sign_counts sign (shapes_of ts n) (0 ∷ [])) result }
+pub fn sign_counts(ts: &[TermShape], sign: bool) -> ColumnCounts
+    requires { ShapesFit ts.now }
+    ensures { CountsHold (sign_counts sign (shapes_of ts.now) (0 ∷ [])) result }
 {
-    let mut c = ColumnCounts {
-        counts: [0; 32],
-        width: 1,
-    };
-    let mut i: usize = 0;
-    while i < n {
-        let t = ts[i];
-        if sign == t.negative {
-            c = push_scaled_counts(c, t.coef, t.bits);
-        }
-        i += 1;
-    }
-    c
+    counts_of(ts, 1, |t| sign == t.negative)
 }
 
 // Eq: the terms that have bits.
-pub fn eq_counts(ts: [TermShape; 7], n: usize) -> ColumnCounts
-    requires { ShapesFit ts n }
-    ensures { CountsHold (gather_counts (shapes_of ts n) []) result }
+pub fn eq_counts(ts: &[TermShape]) -> ColumnCounts
+    requires { ShapesFit ts.now }
+    ensures { CountsHold (gather_counts (shapes_of ts.now) []) result }
 {
-    let mut c = ColumnCounts {
-        counts: [0; 32],
-        width: 0,
-    };
-    let mut i: usize = 0;
-    while i < n {
-        let t = ts[i];
-        if 0 < t.bits {
-            c = push_scaled_counts(c, t.coef, t.bits);
-        }
-        i += 1;
-    }
-    c
-}
-
-// What n bits come to, all set, with that coefficient.
-fn all_bits(coef: u32, n: usize) -> u32
-    requires { shl n coef < 33554432 }
-    ensures { (result ≡ coef * (shl n 1 - 1)) × (result < 33554432) }
-{
-    let mut x: u32 = 0;
-    let mut i: usize = 0;
-    while i < n {
-        x = 2 * x + coef;
-        i += 1;
-    }
-    x
+    counts_of(ts, 0, |t| 0 < t.bits)
 }
 
 // Eq: what the negated literals add too much.
-pub fn negated_bits(ts: [TermShape; 7], n: usize) -> u32
-    requires { ShapesFit ts n }
-    ensures { (result ≡ negated_bits (shapes_of ts n)) × (result < 268435456) }
+pub fn negated_bits(ts: &[TermShape]) -> u32
+    requires { ShapesFit ts.now }
+    ensures { (result ≡ negated_bits (shapes_of ts.now)) × (result < 268435456) }
 {
     let mut sum: u32 = 0;
-    let mut i: usize = 0;
-    while i < n {
-        let t = ts[i];
+    for t in ts {
         if t.negative {
-            sum = sum + all_bits(t.coef, t.bits);
+            sum += t.all_bits();
         }
-        i += 1;
     }
     sum
 }
@@ -138,14 +142,9 @@ pub fn row_counts(x: usize, y: usize) -> ColumnCounts
     requires { (x ≤ 12) × (y ≤ 12) }
     ensures { CountsHold (rows_counts x y 0 []) result }
 {
-    let mut c = ColumnCounts {
-        counts: [0; 32],
-        width: 0,
-    };
-    let mut i: usize = 0;
-    while i < x {
-        c = push_counts(c, i, y);
-        i += 1;
+    let mut c = ColumnCounts::none(0);
+    for i in 0..x {
+        c = c.push(i, y);
     }
     c
 }

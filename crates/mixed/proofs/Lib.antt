@@ -1,4 +1,3 @@
 pub mod Infos
-pub mod Equated
 pub mod Filling
 pub mod TableTells

@@ -4,12 +4,12 @@
 #![tactic(auto)]
 
 ghost use Rattle.std.specs.Prelude.{◌≡◌, map, ◌+◌, ◌*◌, ◌^◌, ◌≤◌, ◌<◌, length, replicate};
-ghost use Rattle.clause_set.specs.Stores.{Fits, add_clauses, after};
+ghost use Rattle.clause_set.specs.Stores.{Added, Fits};
 ghost use Rattle.log_encoding.specs.Enumerate.{bounded};
 ghost use Rattle.mixed.specs.Infos.{AllSmall, InTable, Small, equated, info_lit, info_term, infos_left, negated_info};
 ghost use Rattle.mixed.specs.Filling.{Filled, put_last, put_term};
 
-use clause_set::Counts;
+use clause_set::ClauseSet;
 use mixed_table::{encode_table, wide};
 use sat::Lit;
 
@@ -105,26 +105,24 @@ fn fill_table(tab: &mut [u32; 144], ts: [LinearInfo; 15], n: usize) -> usize
 
 // The clauses of the inequality whose slack is `above - below`; below 0, one empty clause.
 pub fn encode_linear_ge_mixed_from_info(
-    lits: &mut [u32],
-    ends: &mut [u32],
+    set: &mut ClauseSet<'_>,
     ts: [LinearInfo; 15],
     n: usize,
     above: u64,
     below: u64,
-    base: u32,
-    at: Counts,
-) -> Counts
+)
     requires all_small { AllSmall ts }
     requires n_bound { (n ≤ 15) × InTable (infos_left ts n 0) }
-    requires fits { Fits base at (bounded (map info_term (infos_left ts n 0)) above below) }
-    ensures { after lits.new ends.new result ≡ add_clauses base (bounded (map info_term (infos_left ts n 0)) above below) (after lits.old ends.old at) }
+    requires fits { Fits set.old.base set.old.used (bounded (map info_term (infos_left ts n 0)) above below) }
+    ensures { Added set.old (bounded (map info_term (infos_left ts n 0)) above below) set.new }
 {
     if above < below {
-        return clause_set::push(lits, ends, &[], base, at);
+        set.push(&[]);
+        return;
     }
     let mut tab = [0u32; 144];
     let left = fill_table(&mut tab, ts, n);
-    encode_table(lits, ends, &tab, left, above - below, base, at)
+    encode_table(set, &tab, left, above - below);
 }
 
 // The term of minus the number.
@@ -158,22 +156,19 @@ fn negate_all(ts: [LinearInfo; 15], n: usize) -> [LinearInfo; 15]
 
 // The clauses of an equation: both inequalities, the second over the negated terms. `total` is what the terms can lose.
 pub fn encode_linear_eq_mixed_from_info(
-    lits: &mut [u32],
-    ends: &mut [u32],
+    set: &mut ClauseSet<'_>,
     ts: [LinearInfo; 15],
     n: usize,
     above: u64,
     below: u64,
     total: u64,
-    base: u32,
-    at: Counts,
-) -> Counts
+)
     requires all_small { AllSmall ts }
     requires n_bound { (n ≤ 15) × (below + total < 2 ^ 64) × InTable (infos_left ts n 0) }
-    requires fits { Fits base at (equated (infos_left ts n 0) above below total) }
-    ensures { after lits.new ends.new result ≡ add_clauses base (equated (infos_left ts n 0) above below total) (after lits.old ends.old at) }
+    requires fits { Fits set.old.base set.old.used (equated (infos_left ts n 0) above below total) }
+    ensures { Added set.old (equated (infos_left ts n 0) above below total) set.new }
 {
-    let up = encode_linear_ge_mixed_from_info(lits, ends, ts, n, above, below, base, at);
+    encode_linear_ge_mixed_from_info(set, ts, n, above, below);
     let down = negate_all(ts, n);
-    encode_linear_ge_mixed_from_info(lits, ends, down, n, below + total, above, base, up)
+    encode_linear_ge_mixed_from_info(set, down, n, below + total, above);
 }

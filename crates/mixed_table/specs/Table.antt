@@ -2,9 +2,8 @@
 -- entries. By k, how many thresholds are left before the last term (1 to 23, and 0 for the last term): at k the literal, at 24 + k what
 -- missing it costs, at 48 + k how many terms are left, its own the first, at 72 + k what all of them and the last term can lose. At
 -- 96 + s the literal of the last term at slack s. At 120 + j how many thresholds are left where j terms are, before the last.
-use Rattle.std.specs.Prelude.{◌%◌, ◌+◌, ◌-◌, ◌/◌, ◌<◌, ◌≤◌, suc, zero, ℕ, leb, get_or, length, take, cond, List, [], ◌++◌, ◌∷◌, ◌≡◌}
+use Rattle.std.specs.Prelude.{◌+◌, ◌-◌, ◌<◌, ◌≤◌, suc, zero, ℕ, leb, get_or, cond, List, [], ◌++◌, ◌∷◌}
 use Rattle.sat.specs.Clause.{Clauses}
-use Rattle.clause_set.specs.declared.Counts.{Counts}
 use Rattle.log_encoding.specs.Enumerate.{missed}
 
 -- Reading a table ----------------------------------------------------------------------------------------------------
@@ -54,14 +53,3 @@ walk_rows = walk_within 24
 -- the clauses of j terms left before the last, and of the last
 abbrev pub walk : List ℕ → ℕ → ℕ → List ℕ → Clauses
 walk tab j = walk_rows tab (top_of tab j)
-
--- What the recursion carries -----------------------------------------------------------------------------------------
-
--- both counts in one number: 2 ^ 32 times the clauses, plus the literals
-abbrev pub counts : ℕ → Counts
-counts at = record { clauses = at / 4294967296; lits = at % 4294967296 }
-
--- the clause begun has the same m literals as before
-pub record SamePrefix (m : ℕ) (before now : List ℕ) : Type 0 where
-  pub first : take m now ≡ take m before
-  pub long : length now ≡ 24

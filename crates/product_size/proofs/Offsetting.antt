@@ -2,10 +2,10 @@
 use Prim.Native.Nat.{◌+◌, ◌<◌, suc, zero, ℕ}
 use borrow.Author.Tests.{le-ltb, lt-ltb, ltb-false, ltb-true}
 use lib.IntN.{ℤ}
-use lib.ListN.{get_or, replicate, set}
+use lib.ListN.{get_or}
 use mathlib.Core.Bool.{false, true}
-use mathlib.Core.List.{List, ◌++◌}
-use mathlib.Core.Path.{◌∙◌, ◌≡◌, sym}
+use mathlib.Core.List.{List, [], ◌++◌, ◌∷◌}
+use mathlib.Core.Path.{◌≡◌}
 use mir.Syntax.{w32}
 use mir.Val.{of_z, to_z}
 use mir.ValLaws.{to_z-of_z}
@@ -20,23 +20,23 @@ use Rattle.log_sum.proofs.Offsets.{small_fits}
 use Rattle.log_weighted.proofs.Compared.{height_append}
 use Rattle.log_counts.specs.Counted.{ShapeFits, ShapesFit, no_shape}
 use Rattle.log_counts.specs.declared.TermShape.{TermShape}
-use Rattle.terms_size.specs.Measured.{Measured, no_size}
-use Rattle.terms_size.specs.declared.RuleSize.{RuleSize}
+use Rattle.terms_size.specs.Measured.{Measured}
+use Rattle.log_linear.specs.declared.RuleCounts.{RuleCounts}
+use Rattle.std.specs.Prelude.{None, Some}
 use Rattle.sum_size.specs.Shapes.{ShapeReady}
 use Rattle.sum_size.specs.declared.SettingShape.{SettingShape as Shape}
 use Rattle.product_size.specs.Multiplied.{Multiplied, OffsetsEquation, offsets_size}
 use Rattle.product_size.specs.declared.MultiplierSize.{MultiplierSize}
-use Rattle.product_size.proofs.Multiplying.{tall_measured}
 
 -- an offset as the machine reads it
 pub offset_is : (s : Shape) → ShapeReady s → to_z w32 (of_z w32 s.offset) ≡ s.offset
 offset_is s h = to_z-of_z w32 s.offset (small_fits s.offset (omega (arith, h.offset_up)) (omega (arith, h.offset_down)))
 
--- four terms in an array of seven
-pub four_fit : (p q r s : TermShape) → ShapeFits p → ShapeFits q → ShapeFits r → ShapeFits s → ShapesFit (set (set (set (replicate 7 p) 1 q) 2 r) 3 s) 4
+-- four terms
+pub four_fit : (p q r s : TermShape) → ShapeFits p → ShapeFits q → ShapeFits r → ShapeFits s → ShapesFit (p ∷ q ∷ r ∷ s ∷ [])
 four_fit p q r s a b c d = record { few = omega arith; fits = fits }
   where
-    fits : (i : ℕ) → i < 4 → ShapeFits (get_or (set (set (set (replicate 7 p) 1 q) 2 r) 3 s) i no_shape)
+    fits : (i : ℕ) → i < 4 → ShapeFits (get_or (p ∷ q ∷ r ∷ s ∷ []) i no_shape)
     fits zero h = a
     fits (suc zero) h = b
     fits (suc (suc zero)) h = c
@@ -56,7 +56,7 @@ neither_tall rs qs e f =
     let k = ltb-false 12 (greatest_height qs) f in
     le-ltb 12 (greatest_height (rs ++ qs)) (omega (arith, h, k, height_append rs qs))
 
-module _ (x y m : SettingShape) (s : MultiplierSize) (g : Multiplied x.bits y.bits 0 s) where
+module _ (x y m : SettingShape) where
   abbrev constant : ℤ
   constant = offsets_constant x y m
 
@@ -67,24 +67,23 @@ module _ (x y m : SettingShape) (s : MultiplierSize) (g : Multiplied x.bits y.bi
   abbrev second : List Reached
   second = linear_reached eq (offset_shapes x y m) (up constant) (down constant)
 
-  pub multiplier_tall : s.tall ≡ true → Measured 2 (offsets_reached x y m) (offsets_size x y m) no_size
-  multiplier_tall t = tall_measured (first ++ second) (offsets_size x y m) (first_tall first second (sym g.tall_is ∙ t)) 2
+  pub multiplier_tall : Multiplied x.bits y.bits 0 None → Measured 2 (offsets_reached x y m) (offsets_size x y m) None
+  multiplier_tall t = first_tall first second t
 
-  module _ (r : RuleSize) (e : OffsetsEquation x y m r) where
-    pub equation_tall : r.tall ≡ true → Measured 2 (offsets_reached x y m) (offsets_size x y m) no_size
-    equation_tall t = tall_measured (first ++ second) (offsets_size x y m) (second_tall first second (sym e.tall_is ∙ t)) 2
+  pub equation_tall : OffsetsEquation x y m None → Measured 2 (offsets_reached x y m) (offsets_size x y m) None
+  equation_tall t = second_tall first second t
 
-    pub offsets_measured : s.tall ≡ false → r.tall ≡ false
-        → Measured 2 (offsets_reached x y m) (offsets_size x y m) record {
-          tall = false;
-          size = record { vars = s.vars + r.size.vars; used = record { clauses = s.used.clauses + r.size.used.clauses; lits = s.used.lits + r.size.used.lits } };
-        }
-    offsets_measured t u =
-        let c = g.counted (sym g.tall_is ∙ t) in
-        let d = e.sized (sym e.tall_is ∙ u) in
+  pub offsets_measured : (s : MultiplierSize) (r : RuleCounts) → Multiplied x.bits y.bits 0 (Some s) → OffsetsEquation x y m (Some r)
+      → Measured 2 (offsets_reached x y m) (offsets_size x y m)
+      (Some (record { vars = s.vars + r.vars; used = record { clauses = s.used.clauses + r.used.clauses; lits = s.used.lits + r.used.lits } }))
+  offsets_measured s r h k =
+      let g = h.1 in
+      let e = k.1 in
+      let c = g.counted in
+      let d = e.sized in (
+        neither_tall first second h.0 k.0,
         record {
-          tall_is = sym (neither_tall first second (sym g.tall_is ∙ t) (sym e.tall_is ∙ u));
-          sized = λ l.
+          sized =
               record {
                 vars_are = omega (arith, c.vars, d.vars_are);
                 clauses_are = omega (arith, c.clauses, d.clauses_are);
@@ -93,4 +92,5 @@ module _ (x y m : SettingShape) (s : MultiplierSize) (g : Multiplied x.bits y.bi
           few_vars = omega (arith, g.few_vars, e.few_vars);
           few_clauses = omega (arith, g.few_clauses, e.few_clauses);
           few_lits = omega (arith, g.few_lits, e.few_lits);
-        }
+        },
+      )

@@ -12,146 +12,109 @@ ghost use Rattle.product_size.specs.Multiplied.{Multiplied, OffsetsEquation, Pro
 
 use adder_size::adder_size;
 use clause_set::Counts;
+use column_walk::plus;
 use log_adder::greatest_height;
 use log_counts::{TermShape, row_counts};
-use log_gather::larger;
 use log_linear::RuleCounts;
 use log_product::{mul_constant, offsets_zero};
 use log_var::LogEncoding;
-use log_weighted::excess;
 use sum_size::{SettingShape, setting_shape, term_shape};
-use terms_size::{RuleSize, equation_size, too_tall};
+use terms_size::equation_size;
 
-// What a multiplier takes, and how many bits the product has; nothing where a column is too tall.
+// What a multiplier takes, and how many bits the product has.
 #[derive(Clone, Copy)]
 struct MultiplierSize {
-    tall: bool,
     bits: u32,
     vars: u32,
     used: Counts,
 }
 
-// A multiplier with a column above 12.
-fn no_multiplier() -> MultiplierSize
-    ensures { result ≡ record { tall = true; bits = 0; vars = 0; used = record { clauses = 0; lits = 0 } } }
-{
-    MultiplierSize {
-        tall: true,
-        bits: 0,
-        vars: 0,
-        used: Counts {
-            clauses: 0,
-            lits: 0,
-        },
-    }
-}
-
-// The multiplier of x by y bits, of whose product's bits `given` are given: an and-gate for each pair of bits, then the adder.
-fn multiplier_size(x: usize, y: usize, given: usize) -> MultiplierSize
+// The multiplier of x by y bits, of whose product's bits `given` are given: an and-gate for each pair of bits, then the adder. None where a
+// column is above 12.
+fn multiplier_size(x: usize, y: usize, given: usize) -> Option<MultiplierSize>
     requires { (x ≤ 12) × (y ≤ 12) × (given ≤ 12) }
     ensures { Multiplied x y given result }
 {
     let c = row_counts(x, y);
     let counts = c.counts;
-    let width = larger(c.width, given);
+    let width = c.width.max(given);
     if 12 < greatest_height(counts, width, 0) {
-        return no_multiplier();
+        return None;
     }
-    let s = adder_size(counts, width, 0);
-    let used = s.used;
+    let s = adder_size(&counts[..width], 0);
     let pairs = x * y;
-    MultiplierSize {
-        tall: false,
+    let gates = Counts {
+        clauses: pairs * 3,
+        lits: pairs * 7,
+    };
+    Some(MultiplierSize {
         bits: s.bits,
-        vars: pairs as u32 + (s.carries + excess(s.bits, given as u32)),
-        used: Counts {
-            clauses: pairs * 3 + used.clauses,
-            lits: pairs * 7 + used.lits,
-        },
-    }
+        vars: pairs as u32 + (s.carries + s.bits.saturating_sub(given as u32)),
+        used: plus(gates, s.used),
+    })
 }
 
 // Without offsets, from the bits of x, y and m: the product's bits past m's have a one-literal clause each.
-fn plain_size(x: usize, y: usize, m: usize) -> RuleSize
+fn plain_size(x: usize, y: usize, m: usize) -> Option<RuleCounts>
     requires { (x ≤ 12) × (y ≤ 12) × (m ≤ 12) }
     ensures { Measured 2 (multiplier_reached x y m) (plain_size x y m) result }
 {
-    let s = multiplier_size(x, y, m);
-    if s.tall {
-        return too_tall();
-    }
-    let over = excess(s.bits, m as u32) as usize;
-    let used = s.used;
-    RuleSize {
-        tall: false,
-        size: RuleCounts {
-            vars: s.vars,
-            used: Counts {
-                clauses: used.clauses + over,
-                lits: used.lits + over,
-            },
-        },
-    }
+    let s = multiplier_size(x, y, m)?;
+    let over = s.bits.saturating_sub(m as u32) as usize;
+    let units = Counts {
+        clauses: over,
+        lits: over,
+    };
+    Some(RuleCounts {
+        vars: s.vars,
+        used: plus(s.used, units),
+    })
 }
 
 // With offsets: the terms of Eq, over a product of so many bits.
-fn offset_shapes(x: SettingShape, y: SettingShape, m: SettingShape, bits: usize) -> [TermShape; 7]
+fn offset_shapes(x: SettingShape, y: SettingShape, m: SettingShape, bits: usize) -> [TermShape; 4]
     requires shape_ready { ShapeReady x × ShapeReady y × ShapeReady m }
     requires product_long { ProductLong x.bits y.bits bits }
-    ensures { (shapes_of result 4 ≡ offset_shapes (numbers_of x) (numbers_of y) (numbers_of m)) × ShapesFit result 4 }
+    ensures { (shapes_of result ≡ offset_shapes (numbers_of x) (numbers_of y) (numbers_of m)) × ShapesFit result }
 {
     let product = term_shape(1, bits);
     let by_x = term_shape(y.offset, x.bits);
     let by_y = term_shape(x.offset, y.bits);
     let by_m = term_shape(-1, m.bits);
-    let mut ts = [product; 7];
-    ts[1] = by_x;
-    ts[2] = by_y;
-    ts[3] = by_m;
-    ts
+    [product, by_x, by_y, by_m]
 }
 
 // With offsets: Eq over the product's bits and the numbers themselves.
-fn offsets_equation(x: SettingShape, y: SettingShape, m: SettingShape, bits: usize) -> RuleSize
+fn offsets_equation(
+    x: SettingShape,
+    y: SettingShape,
+    m: SettingShape,
+    bits: usize,
+) -> Option<RuleCounts>
     requires shape_ready { ShapeReady x × ShapeReady y × ShapeReady m }
     requires product_long { ProductLong x.bits y.bits bits }
     ensures { OffsetsEquation (numbers_of x) (numbers_of y) (numbers_of m) result }
 {
     let ts = offset_shapes(x, y, m, bits);
     let k = mul_constant(x.offset, y.offset, m.offset);
-    equation_size(ts, 4, arithmetic::up(k), arithmetic::down(k))
+    equation_size(&ts, arithmetic::up(k), arithmetic::down(k))
 }
 
 // With offsets: the multiplier, then that Eq.
-fn offsets_size(x: SettingShape, y: SettingShape, m: SettingShape) -> RuleSize
+fn offsets_size(x: SettingShape, y: SettingShape, m: SettingShape) -> Option<RuleCounts>
     requires { ShapeReady x × ShapeReady y × ShapeReady m }
     ensures { Measured 2 (offsets_reached (numbers_of x) (numbers_of y) (numbers_of m)) (offsets_size (numbers_of x) (numbers_of y) (numbers_of m)) result }
 {
-    let s = multiplier_size(x.bits, y.bits, 0);
-    if s.tall {
-        return too_tall();
-    }
-    let sum = offsets_equation(x, y, m, s.bits as usize);
-    if sum.tall {
-        return too_tall();
-    }
-    let size = sum.size;
-    let used = s.used;
-    let more = size.used;
-    RuleSize {
-        tall: false,
-        size: RuleCounts {
-            vars: s.vars + size.vars,
-            used: Counts {
-                clauses: used.clauses + more.clauses,
-                lits: used.lits + more.lits,
-            },
-        },
-    }
+    let s = multiplier_size(x.bits, y.bits, 0)?;
+    let sum = offsets_equation(x, y, m, s.bits as usize)?;
+    Some(RuleCounts {
+        vars: s.vars + sum.vars,
+        used: plus(s.used, sum.used),
+    })
 }
 
 // A product of settings by their numbers.
-fn shapes_size(x: SettingShape, y: SettingShape, m: SettingShape) -> RuleSize
+fn shapes_size(x: SettingShape, y: SettingShape, m: SettingShape) -> Option<RuleCounts>
     requires { ShapeReady x × ShapeReady y × ShapeReady m }
     ensures { Measured 2 (mul_reached (numbers_of x) (numbers_of y) (numbers_of m)) (mul_size (numbers_of x) (numbers_of y) (numbers_of m)) result }
 {
@@ -162,7 +125,7 @@ fn shapes_size(x: SettingShape, y: SettingShape, m: SettingShape) -> RuleSize
 }
 
 // A product over the settings' records.
-pub fn mul_size(encodings: [LogEncoding; 32], x: u32, y: u32, m: u32) -> RuleSize
+pub fn mul_size(encodings: [LogEncoding; 32], x: u32, y: u32, m: u32) -> Option<RuleCounts>
     requires { ProductsReady encodings x y m }
     ensures { Measured 2 (mul_reached (shape_map_of encodings x) (shape_map_of encodings y) (shape_map_of encodings m)) (mul_size (shape_map_of encodings x) (shape_map_of encodings y) (shape_map_of encodings m)) result }
 {

@@ -6,7 +6,8 @@ use native.Mathlib.Nat.{add-zero, zero-add}
 use native.Mathlib.Omega.{arith}
 use borrow.Author.Tests.{le-ltb}
 use lib.IntN.{negsuc, pos, ℤ}
-use lib.ListN.{length, get_or, set}
+use lib.ListN.{length, get_or, set, take}
+use lib.Seq.{get_or-take, length-take-le}
 use lib.Signed.{lt_z}
 use Rattle.arithmetic.specs.Integers.{down, up}
 use Rattle.norm_csp.specs.Rules.{LinearTerm, terms_of}
@@ -37,7 +38,13 @@ module _ (settings : ℕ → SettingShape) {zs : List ℤ} {ts : List TermShape}
       → term_shape t ≡ weighted_shape (get_or zs (2 * i + 1) (pos 0)) (settings (up (get_or zs (2 * i) (pos 0)))).bits → ShapeFits t → Shaping settings zs (set ts i t) (i + 1)
   shaping_turn t h e f = filling_turn _ _ no_shape term_shape ShapeFits (term_of settings) (term_shapes settings) w few (λ x us. refl) t h e f
 
-  pub shaping_end : length zs / 2 ≤ i → (shapes_of ts (length zs / 2) ≡ term_shapes settings (terms_of zs)) × ShapesFit ts (length zs / 2)
+  pub shaping_end : length zs / 2 ≤ i → let us = take (length zs / 2) ts in (shapes_of us ≡ term_shapes settings (terms_of zs)) × ShapesFit us
   shaping_end h =
       let r = filling_end _ _ no_shape term_shape ShapeFits (term_of settings) (term_shapes settings) w few refl h in
-      (r.0, record { few = omega arith; fits = r.1 })
+      let long = length-take-le (length zs / 2) ts (omega (arith, w.long)) in (
+        r.0,
+        record {
+          few = omega (arith, long);
+          fits = λ k l. let m : k < length zs / 2 = omega (arith, long, l) in rw (get_or-take (length zs / 2) ts k no_shape m) (r.1 k m);
+        },
+      )

@@ -1,7 +1,7 @@
 // The size of a sum over the settings' records, of all six operations, from bit counts, offsets, coefficients and the constant.
 #![tactic(auto)]
 
-ghost use Rattle.std.specs.Prelude.{◌≡◌, ◌+◌, ◌/◌, ◌≤◌, ◌<◌, length};
+ghost use Rattle.std.specs.Prelude.{◌≡◌, ◌+◌, ◌/◌, ◌≤◌, ◌<◌, length, take};
 ghost use Rattle.arithmetic.specs.Bits.{shl};
 ghost use Rattle.arithmetic.specs.Integers.{down, up};
 ghost use Rattle.norm_csp.specs.NormOp.{op_of};
@@ -16,12 +16,12 @@ ghost use Rattle.log_counts.specs.Counted.{ShapeFits, ShapesFit, shapes_of, term
 ghost use Rattle.terms_size.specs.Measured.{Measured};
 ghost use Rattle.sum_size.specs.Shapes.{ShapeReady, numbers_of, turned_size};
 
-use arithmetic::magnitude;
 use log_counts::TermShape;
+use log_linear::RuleCounts;
 use log_sum::{coef_at, offset_constant, setting_at};
 use log_turned::turned;
 use log_var::LogEncoding;
-use terms_size::{RuleSize, terms_size};
+use terms_size::terms_size;
 
 // The numbers of a setting: how many bits it has, and its offset.
 #[derive(Clone, Copy)]
@@ -48,15 +48,15 @@ pub fn term_shape(coef: i32, bits: usize) -> TermShape
 {
     TermShape {
         negative: coef < 0,
-        coef: magnitude(coef),
+        coef: coef.unsigned_abs(),
         bits,
     }
 }
 
-// The terms of a sum; the list has setting, coefficient, in turn.
+// The terms of a sum, as many as the list has; it has setting, coefficient, in turn.
 fn term_shapes(encodings: [LogEncoding; 32], terms: &[i32]) -> [TermShape; 7]
     requires { TermsReady encodings terms.now }
-    ensures { (shapes_of result (length terms.now / 2) ≡ term_shapes (shape_map_of encodings) (terms_of terms.now)) × ShapesFit result (length terms.now / 2) }
+    ensures { (shapes_of (take (length terms.now / 2) result) ≡ term_shapes (shape_map_of encodings) (terms_of terms.now)) × ShapesFit (take (length terms.now / 2) result) }
 {
     let none = TermShape {
         negative: false,
@@ -64,31 +64,37 @@ fn term_shapes(encodings: [LogEncoding; 32], terms: &[i32]) -> [TermShape; 7]
         bits: 0,
     };
     let mut ts = [none; 7];
-    let n = terms.len() / 2;
-    let mut i: usize = 0;
-    while i < n {
+    for i in 0..terms.len() / 2 {
         let x = setting_at(terms, i);
         let s = setting_shape(encodings[x]);
-        let t = term_shape(coef_at(terms, i), s.bits);
-        ts[i] = t;
-        i += 1;
+        ts[i] = term_shape(coef_at(terms, i), s.bits);
     }
     ts
 }
 
-// A sum of Eq, Ne or Ge.
-fn linear_size(encodings: [LogEncoding; 32], op: u32, constant: i32, terms: &[i32]) -> RuleSize
+// A sum of Eq, Ne or Ge; none where a column is above 12.
+fn linear_size(
+    encodings: [LogEncoding; 32],
+    op: u32,
+    constant: i32,
+    terms: &[i32],
+) -> Option<RuleCounts>
     requires terms_ready { TermsReady encodings terms.now }
     requires constant_bound { (up constant ≤ 1000001) × (down constant ≤ 1000001) }
     ensures { Measured 2 (linear_log_reached (shape_map_of encodings) (op_of op) constant (terms_of terms.now)) (linear_log_size (shape_map_of encodings) (op_of op) constant (terms_of terms.now)) result }
 {
     let ts = term_shapes(encodings, terms);
     let k = offset_constant(encodings, constant, terms);
-    terms_size(op, ts, terms.len() / 2, k)
+    terms_size(op, &ts[..terms.len() / 2], k)
 }
 
-// A sum of any operation.
-pub fn turned_size(encodings: [LogEncoding; 32], op: u32, constant: i32, terms: &[i32]) -> RuleSize
+// A sum of any operation; none where a column is above 12.
+pub fn turned_size(
+    encodings: [LogEncoding; 32],
+    op: u32,
+    constant: i32,
+    terms: &[i32],
+) -> Option<RuleCounts>
     requires terms_ready { TermsReady encodings terms.now }
     requires constant_bound { (up constant ≤ 1000000) × (down constant ≤ 1000000) }
     ensures { Measured 2 (turned_reached (shape_map_of encodings) (cmp_op_of op) constant (terms_of terms.now)) (turned_size (shape_map_of encodings) (cmp_op_of op) constant (terms_of terms.now)) result }

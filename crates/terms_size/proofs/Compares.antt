@@ -8,6 +8,7 @@ use mathlib.Core.Bool.{Bool, false, true}
 use mathlib.Core.List.{List, ◌++◌}
 use mathlib.Core.Path.{◌≡◌, ap₂, refl}
 use native.Mathlib.Omega.{arith}
+use Rattle.std.specs.Prelude.{Some}
 use Rattle.arithmetic.specs.Integers.{down, up}
 use Rattle.norm_csp.specs.NormOp.{op_of}
 use Rattle.log_linear.specs.declared.RuleCounts.{RuleCounts}
@@ -58,7 +59,7 @@ module _ (ps : List WeightedShape) (a b : ℕ) (p n : AdderSize) (r : RuleCounts
       }
 
   pub comparison_measured : (is_ne : Bool) → greatest_height both ≤ 12 → Compared is_ne p n r
-      → Measured 2 both (terms_size (compared_op is_ne) ps a b) record { tall = false; size = r }
+      → Measured 2 both (terms_size (compared_op is_ne) ps a b) (Some r)
   comparison_measured is_ne h c =
       let most = last_most is_ne p.bits n.bits x.few y.few in
       measured_fits 2 both (terms_size (compared_op is_ne) ps a b) r h (comparison_sized is_ne c)

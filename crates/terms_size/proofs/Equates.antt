@@ -1,9 +1,9 @@
 -- Eq's columns counted are as many as the definition says.
 use Prim.Native.Nat.{◌+◌, ◌-◌, ◌≤◌, ℕ}
-use mathlib.Core.Bool.{false}
 use mathlib.Core.List.{List, []}
 use mathlib.Core.Path.{◌≡◌}
 use native.Mathlib.Omega.{arith}
+use Rattle.std.specs.Prelude.{Some}
 use Rattle.norm_csp.specs.NormOp.{eq}
 use Rattle.log_linear.specs.declared.RuleCounts.{RuleCounts}
 use Rattle.log_encoding.specs.AdderSize.{eq_reached, greatest_height}
@@ -28,7 +28,7 @@ module _ (ps : List WeightedShape) (a b target x y : ℕ) (hs : List ℕ) (count
       λ k. eq_size (counts_are k) (i k) (j k)
 
   pub equation_measured : (r : RuleCounts) → greatest_height (linear_reached eq ps a b) ≤ 12 → EqSized hs x y r
-      → Measured 1 (linear_reached eq ps a b) (terms_size eq ps a b) record { tall = false; size = r }
+      → Measured 1 (linear_reached eq ps a b) (terms_size eq ps a b) (Some r)
   equation_measured r h e =
       measured_fits 1 (linear_reached eq ps a b) (terms_size eq ps a b) r h (rw size_is at e.sized) (omega (arith, e.few_vars))
       (omega (arith, e.few_clauses)) (omega (arith, e.few_lits))

@@ -1,24 +1,24 @@
 -- The size of a rule as the code holds it: where no column reached is too tall.
-use Rattle.std.specs.Prelude.{◌*◌, ◌≤◌, ℕ, Bool, false, true, List, ◌≡◌}
+use Rattle.std.specs.Prelude.{◌*◌, ◌≤◌, ℕ, length, take, Bool, false, true, List, ◌≡◌, Option, Some, None}
 use Rattle.sat.specs.Size.{Size, size_by}
 use Rattle.norm_csp.specs.NormOp.{NormOp, ge, ne}
 use Rattle.log_encoding.specs.AdderSize.{Reached, greatest_height, input_shapes, reached, too_tall}
 use Rattle.log_encoding.specs.LinearSize.{WeightedShape, linear_count, linear_vars}
 use Rattle.eq_size.specs.Sized.{Sized}
+use Rattle.log_linear.specs.declared.RuleCounts.{RuleCounts}
 use Rattle.terms_size.specs.declared.Columns.{Columns}
-use Rattle.terms_size.specs.declared.RuleSize.{RuleSize}
 
--- a rule with a column above 12
-abbrev pub no_size : RuleSize
-no_size = record { tall = true; size = record { vars = 0; used = record { clauses = 0; lits = 0 } } }
+-- a size no greater than that of n adders
+pub record SizedBy (n : ℕ) (size : Size) (r : RuleCounts) : Type 0 where
+  pub sized : Sized size r
+  pub few_vars : r.vars ≤ 1000 * n
+  pub few_clauses : r.used.clauses ≤ 34000000 * n
+  pub few_lits : r.used.lits ≤ 504000000 * n
 
--- whether a column reached is too tall, and if none is, the size; it is no greater than that of n adders
-pub record Measured (n : ℕ) (rs : List Reached) (size : Size) (r : RuleSize) : Type 0 where
-  pub tall_is : r.tall ≡ too_tall rs
-  pub sized : too_tall rs ≡ false → Sized size r.size
-  pub few_vars : r.size.vars ≤ 1000 * n
-  pub few_clauses : r.size.used.clauses ≤ 34000000 * n
-  pub few_lits : r.size.used.lits ≤ 504000000 * n
+-- none where a column reached is too tall, else the size; it is no greater than that of n adders
+abbrev pub Measured : ℕ → List Reached → Size → Option RuleCounts → Type 0
+Measured n rs size None = too_tall rs ≡ true
+Measured n rs size (Some r) = (too_tall rs ≡ false) × SizedBy n size r
 
 -- Ne or Ge
 abbrev pub compared_op : Bool → NormOp
@@ -29,8 +29,13 @@ compared_op false = ge
 abbrev pub terms_size : NormOp → List WeightedShape → ℕ → ℕ → Size
 terms_size op ps a b = size_by (linear_vars op ps a b) (λ weigh. linear_count weigh op ps a b)
 
--- the columns with the bits of k are those reached
+-- what columns of so many literals reach with the bits of k
+abbrev pub reached_by : List ℕ → ℕ → List Reached
+reached_by hs k = reached (input_shapes (length hs) 0 hs k) 0
+
+-- the columns in use with the bits of k are those reached
 pub record ColumnsReach (rs : List Reached) (k : ℕ) (c : Columns) : Type 0 where
-  pub reach : reached (input_shapes c.width 0 c.counts k) 0 ≡ rs
-  pub narrow : c.width ≤ 25
+  pub reach : reached_by (take c.counts.width c.counts.counts) k ≡ rs
+  pub narrow : c.counts.width ≤ 25
+  pub long : length c.counts.counts ≡ 32
   pub height_is : c.height ≡ greatest_height rs

@@ -1,10 +1,7 @@
 -- `adder_size::adder_size` meets its contract.
-use Prim.Native.Nat.{◌-◌}
+use lib.ListN.{length}
 use Rattle.adder_size.proofs.Left.{ColumnsLeft}
 use Rattle.adder_size.proofs.adder_size.Given as goal
 
-abbrev pub invariant-loop-i : goal.invariant-loop-i
-invariant-loop-i l = ColumnsLeft l.counts l.width l.initial.k l.i l.k l.s
-
-abbrev pub decreases-loop-i : goal.decreases-loop-i
-decreases-loop-i l = l.width - l.i
+abbrev pub invariant-loop-own : goal.invariant-loop-own
+invariant-loop-own l = ColumnsLeft l.counts (length l.counts) l.initial.k l.own-index l.k l.s

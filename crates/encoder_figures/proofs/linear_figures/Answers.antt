@@ -1,7 +1,7 @@
 -- `encoder_figures::linear_figures` meets its contract.
 use lib.IntN.{ℤ}
 use mathlib.Core.List.{List}
-use mathlib.Core.Path.{◌≡◌, ◌∙◌, sym}
+use mathlib.Core.Path.{◌≡◌, ◌∙◌, ap, sym}
 use mir.Syntax.{w32}
 use mir.Val.{of_z, to_z}
 use mir.ValLaws.{to_z-of_z}
@@ -11,15 +11,21 @@ use Rattle.norm_csp.specs.Turned.{turned}
 use Rattle.log_encoding.proofs.LinearSize.{encode_linear_log_size}
 use Rattle.log_var.specs.Settings.{shape_map_of}
 use Rattle.sum_size.specs.Shapes.{turned_size}
+use Rattle.refusal.specs.Number.{status}
 use Rattle.encoder_env.specs.WellFormed.{int_map}
-use Rattle.encoder_answer.specs.Outcome.{Check, status_of}
+use Rattle.std.proofs.Common.{rules}
+use Rattle.std.specs.Prelude.{Err}
+use Rattle.sat.specs.Encoded.{EncodedRule}
+use Rattle.sat.specs.Size.{Size}
+use Rattle.log_encoding.specs.AdderSize.{Reached}
+use Rattle.encoder_answer.specs.Outcome.{Check, Numbered}
 use Rattle.encoder_linear.specs.Sums.{argument_checks, sum_encoded, sum_reached}
-use Rattle.encoder_linear.proofs.Added.{ArgumentsKnown, arguments_known, arguments_numbered}
+use Rattle.encoder_linear.proofs.Added.{arguments_known, arguments_numbered}
 use Rattle.encoder_linear.proofs.Ready.{terms_ready}
 use Rattle.encoder_figures.specs.Figures.{linear_figures, most_entries}
-use Rattle.encoder_figures.proofs.Measured.{measured_figures, refused_as}
+use Rattle.encoder_figures.proofs.Measured.{measured_few, measured_figures, refused_as}
 use Rattle.encoder_figures.proofs.linear_figures.Goals as goal
-use Rattle.encoder_figures.proofs.linear_figures.Goals.{Else-status-ne0, Start}
+use Rattle.encoder_figures.proofs.linear_figures.Goals.{Start}
 
 -- the constant, as the callees have it
 abbrev given : Start → ℤ
@@ -32,40 +38,50 @@ given_is s = to_z-of_z w32 s.args.constant s.ranges.constant
 abbrev first : Start → List Check
 first s = let a = s.args in argument_checks a.env most_entries most_entries a.op (given s) a.terms.now
 
-passed-all : (c : Else-status-ne0) → status_of (first c.before.before) ≡ 0
-passed-all c = sym c.argument_status-status.ensures ∙ c.if-status-ne0.false
+-- what the checks and the size are of
+abbrev reached : Start → List Reached
+reached s = let a = s.args in sum_reached a.env a.op (given s) a.terms.now
 
-known : (c : Else-status-ne0) → let a = c.args in ArgumentsKnown a.env most_entries most_entries a.op (given c.before.before) a.terms.now
-known c = let a = c.args in arguments_known a.env most_entries most_entries a.op (given c.before.before) a.terms.now (passed-all c)
+abbrev size : Start → Size
+size s = let a = s.args in turned_size (shape_map_of a.env.encodings) (cmp_op_of a.op) (given s) (terms_of a.terms.now)
 
-pub returns-then-status-ne0 : goal.returns-then-status-ne0
+abbrev encoded : Start → EncodedRule
+encoded s = let a = s.args in sum_encoded a.env a.op (given s) a.terms.now
+
+numbered : (s : Start) → Numbered (first s)
+numbered s = let a = s.args in arguments_numbered a.env most_entries most_entries a.op (given s) a.terms.now
+
+pub returns-in_err-argument_checks : goal.returns-in_err-argument_checks
 unfolding linear_figures
-returns-then-status-ne0 c =
-    let a = c.args in
-    rw (given_is (goal.at.returns-then-status-ne0 c).Start) at
-    (c.refused.ensures
-    ∙ refused_as (first (goal.at.returns-then-status-ne0 c).Start) (arguments_numbered a.env most_entries most_entries a.op (given (goal.at.returns-then-status-ne0 c).Start) a.terms.now) (sum_reached a.env a.op (given (goal.at.returns-then-status-ne0 c).Start) a.terms.now)
-    (turned_size (shape_map_of a.env.encodings) (cmp_op_of a.op) (given (goal.at.returns-then-status-ne0 c).Start) (terms_of a.terms.now))
-    a.env.variables (sum_encoded a.env a.op (given (goal.at.returns-then-status-ne0 c).Start) a.terms.now) c.argument_status-status.result c.argument_status-status.ensures c.if-status-ne0.true)
+returns-in_err-argument_checks c =
+    let s = (goal.at.returns-in_err-argument_checks c).Start in
+    let is : c.from_residual.result ≡ Err c.in_err-argument_checks.field-0.0 = search rules in
+    rw (given_is s) at (refused_as (first s) (numbered s) (reached s) (size s) c.args.env.variables (encoded s) c.argument_checks.result c.argument_checks.ensures c.in_err-argument_checks.was is)
 
 pub turned_size-requires-clause-terms_ready : goal.turned_size-requires-clause-terms_ready
 turned_size-requires-clause-terms_ready c =
     let a = c.args in
-    let k = known (goal.at.turned_size-requires-clause-terms_ready c).Else-status-ne0 in terms_ready a.env most_entries most_entries a.op (given (goal.at.turned_size-requires-clause-terms_ready c).Start) a.terms.now k
+    let s = (goal.at.turned_size-requires-clause-terms_ready c).Start in
+    let z = sym c.argument_checks.ensures ∙ ap status c.in_ok-argument_checks.was in
+    terms_ready a.env most_entries most_entries a.op (given s) a.terms.now (arguments_known a.env most_entries most_entries a.op (given s) a.terms.now z)
 
 pub turned_size-requires-clause-constant_bound : goal.turned_size-requires-clause-constant_bound
 turned_size-requires-clause-constant_bound c =
     let a = c.args in
-    let k = known (goal.at.turned_size-requires-clause-constant_bound c).Else-status-ne0 in (omega (arith, k.constant_small), omega (arith, k.constant_small))
+    let s = (goal.at.turned_size-requires-clause-constant_bound c).Start in
+    let z = sym c.argument_checks.ensures ∙ ap status c.in_ok-argument_checks.was in
+    let k = arguments_known a.env most_entries most_entries a.op (given s) a.terms.now z in
+    (omega (arith, k.constant_small), omega (arith, k.constant_small))
+
+pub figures_of-requires : goal.figures_of-requires
+figures_of-requires c = measured_few _ _ c.turned_size.result c.turned_size.ensures
 
 pub returns : goal.returns
 unfolding linear_figures
 returns c =
     let a = c.args in
-    let z = turned (cmp_op_of a.op) (given (goal.at.returns c).Start) (terms_of a.terms.now) in
-    rw (given_is (goal.at.returns c).Start) at
-    (c.figures_of.ensures
-    ∙ measured_figures (first (goal.at.returns c).Start) (arguments_numbered a.env most_entries most_entries a.op (given (goal.at.returns c).Start) a.terms.now) (sum_reached a.env a.op (given (goal.at.returns c).Start) a.terms.now)
-    (turned_size (shape_map_of a.env.encodings) (cmp_op_of a.op) (given (goal.at.returns c).Start) (terms_of a.terms.now))
-    a.env.variables (sum_encoded a.env a.op (given (goal.at.returns c).Start) a.terms.now) c.turned_size.result (passed-all (goal.at.returns c).Else-status-ne0)
-    (encode_linear_log_size (int_map a.env) z.op z.constant z.terms a.env.variables) c.turned_size.ensures)
+    let s = (goal.at.returns c).Start in
+    let z = turned (cmp_op_of a.op) (given s) (terms_of a.terms.now) in
+    rw (given_is s) at
+    (measured_figures (first s) (numbered s) (reached s) (size s) a.env.variables (encoded s) c.argument_checks.result c.argument_checks.ensures c.turned_size.result c.in_ok-argument_checks.was
+    (encode_linear_log_size (int_map a.env) z.op z.constant z.terms a.env.variables) c.turned_size.ensures c.figures_of.ensures)

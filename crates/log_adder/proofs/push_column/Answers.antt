@@ -3,6 +3,7 @@
 use mathlib.Core.Path.{◌≡◌}
 use native.Mathlib.Omega.{arith}
 use lib.ListN.{length}
+use Rattle.clause_set.proofs.Writing.{given_back}
 use Rattle.log_adder.specs.ColumnInfo.{column_clauses}
 use Rattle.log_adder.proofs.ColumnStored.{column_fits, equated_added, equated_fits}
 use Rattle.log_adder.proofs.ColumnTerms.{column_equated, column_in_table, column_size}
@@ -27,4 +28,5 @@ encode_linear_eq_mixed_from_info-requires-clause-fits c =
 pub returns : goal.returns
 returns c =
     let w = c.encode_linear_eq_mixed_from_info in
-    equated_added _ _ _ _ _ _ c.args.base _ c.infos.ensures.0 (column_equated c.args.c c.requires.column_sized (own-long (goal.at.returns c).Start)) c.args.lits.now c.args.ends.now w.result w.ensures
+    let back = given_back w.ensures c.lits-1.given.1.1 c.ends-1.given.1.1 in
+    equated_added _ _ _ _ _ _ c.args.base _ c.infos.ensures.0 (column_equated c.args.c c.requires.column_sized (own-long (goal.at.returns c).Start)) c.args.lits.now c.args.ends.now w.new.set.used back

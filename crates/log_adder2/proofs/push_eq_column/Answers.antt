@@ -3,6 +3,7 @@
 use mathlib.Core.Path.{◌≡◌}
 use native.Mathlib.Omega.{arith}
 use lib.ListN.{length}
+use Rattle.clause_set.proofs.Writing.{given_back}
 use Rattle.log_adder.proofs.ColumnStored.{column_fits, equated_added, equated_fits}
 use Rattle.log_adder.proofs.ColumnTerms.{eq_column_equated, eq_column_size, eq_in_table}
 use Rattle.log_adder2.specs.EqState.{eq_column_clauses}
@@ -17,7 +18,7 @@ pub encode_linear_eq_mixed_from_info-requires-clause-n_bound : goal.encode_linea
 encode_linear_eq_mixed_from_info-requires-clause-n_bound c =
     let a = c.args in
     let z = c.requires.column_sized in
-    let i = c.infos.ensures in
+    let i = c.infos-ts.ensures in
     let f = column_fits (eq_column_clauses a.c a.x a.y) (eq_column_size a.c z (own-long (goal.at.encode_linear_eq_mixed_from_info-requires-clause-n_bound c).Start) a.x a.y) a.base c.requires.base_bound in
     let t = two_terms a.c _ z (own-long (goal.at.encode_linear_eq_mixed_from_info-requires-clause-n_bound c).Start) i.0 in (omega (arith, z), omega (arith, z), rw t (eq_in_table a.c z (own-long (goal.at.encode_linear_eq_mixed_from_info-requires-clause-n_bound c).Start)))
 
@@ -25,7 +26,7 @@ pub encode_linear_eq_mixed_from_info-requires-clause-fits : goal.encode_linear_e
 encode_linear_eq_mixed_from_info-requires-clause-fits c =
     let a = c.args in
     let z = c.requires.column_sized in
-    let i = c.infos.ensures in
+    let i = c.infos-ts.ensures in
     let f = column_fits (eq_column_clauses a.c a.x a.y) (eq_column_size a.c z (own-long (goal.at.encode_linear_eq_mixed_from_info-requires-clause-fits c).Start) a.x a.y) a.base c.requires.base_bound in
     let t = two_terms a.c _ z (own-long (goal.at.encode_linear_eq_mixed_from_info-requires-clause-fits c).Start) i.0 in equated_fits _ _ _ _ _ _ _ _ t (eq_column_equated a.c z (own-long (goal.at.encode_linear_eq_mixed_from_info-requires-clause-fits c).Start) a.x a.y) f
 
@@ -34,5 +35,6 @@ returns c =
     let a = c.args in
     let z = c.requires.column_sized in
     let w = c.encode_linear_eq_mixed_from_info in
-    equated_added _ _ _ _ _ _ a.base _ (two_terms a.c _ z (own-long (goal.at.returns c).Start) c.infos.ensures.0)
-    (eq_column_equated a.c z (own-long (goal.at.returns c).Start) a.x a.y) a.lits.now a.ends.now w.result w.ensures
+    let back = given_back w.ensures c.lits-1.given.1.1 c.ends-1.given.1.1 in
+    equated_added _ _ _ _ _ _ a.base _ (two_terms a.c _ z (own-long (goal.at.returns c).Start) c.infos-ts.ensures.0)
+    (eq_column_equated a.c z (own-long (goal.at.returns c).Start) a.x a.y) a.lits.now a.ends.now w.new.set.used back

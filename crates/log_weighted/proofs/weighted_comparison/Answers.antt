@@ -1,7 +1,8 @@
 -- `log_weighted::weighted_comparison` meets its contract.
 use mathlib.Core.Bool.{false, true}
 use mathlib.Core.Path.{sym, ◌∙◌}
-use Rattle.clause_set.specs.Stores.{after, stores}
+use Rattle.clause_set.specs.Stores.{after}
+use Rattle.clause_set.proofs.Writing.{given_back}
 use Rattle.log_encoding.specs.Linear.{comparison, sign_adder}
 use Rattle.log_linear.specs.Added.{add_rule}
 use Rattle.log_linear.specs.declared.RuleCounts.{RuleCounts}
@@ -15,13 +16,11 @@ returns c =
     let test = comparison c.args.is_ne in
     let s = c.both_sums-s in
     let w = c.push_comparison.ensures in
-    let d = c.lits-2-1.given.1.1 (sym w.same_lits) in
-    let e = c.ends-2-1.given.1.1 (sym w.same_ends) in
+    let back = given_back w c.lits-2-1.given.1.1 c.ends-2-1.given.1.1 in
     let u = c.push_comparison.new.set in
     let r : RuleCounts = record { vars = u.vars; used = u.used } in
     let x = c.as_slice.ensures.0 in
     let y = c.as_slice-2.ensures.0 in
     compared test (sign_adder false ws c.args.a c.args.vars) (sign_adder true ws c.args.b) c.args.at s.result r s.ensures
-    ((λ i. record { stores = stores (d i) (e i) u.used.lits u.used.clauses; vars = u.vars })
-    ∙ (λ i. record { stores = w.stores_are i; vars = w.vars_are i })
+    ((λ i. record { stores = back i; vars = w.vars_are i })
     ∙ (λ i. add_rule (test (x i) (y i) s.result.vars) (after s.new.lits s.new.ends s.result.used)))

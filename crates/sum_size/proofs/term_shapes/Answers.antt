@@ -19,33 +19,31 @@ use Rattle.sum_size.proofs.term_shapes.Goals.{After-coef_at, In-loop-i}
 
 -- a term of the list
 in_list : (c : In-loop-i) → 2 * c.loop-i.i + 1 < length c.args.terms.now
-in_list c = omega (arith, c.loop-i.invariant.1, c.loop-i-test.true)
+in_list c = omega (arith, c.loop-i-test.true)
 
 -- the coefficient as the machine reads it
 coef-is : (c : After-coef_at) → to_z w32 (of_z w32 c.coef_at.result) ≡ get_or c.args.terms.now (2 * c.loop-i.i + 1) (pos 0)
 coef-is c = to_z-of_z w32 c.coef_at.result (record { sfits = c.coef_at.type_inv }) ∙ c.coef_at.ensures
 
-pub term_shape-t-requires : goal.term_shape-t-requires
-term_shape-t-requires c =
+pub term_shape-requires : goal.term_shape-requires
+term_shape-requires c =
     let l = c.loop-i in
-    let t = c.requires.terms l.i (in_list (goal.at.term_shape-t-requires c).In-loop-i) in
+    let t = c.requires.terms l.i (in_list (goal.at.term_shape-requires c).In-loop-i) in
     let k = get_or c.args.terms.now (2 * l.i + 1) (pos 0) in
     let b = shl_more c.setting_shape-s.result.bits 12 (up k + down k) c.setting_shape-s.ensures.1.bits_few in
-    rw (coef-is (goal.at.term_shape-t-requires c).After-coef_at) (omega (arith, t.coef_up), omega (arith, t.coef_down), omega (arith, b, t.coef_up, t.coef_down, apart_read k))
+    rw (coef-is (goal.at.term_shape-requires c).After-coef_at) (omega (arith, t.coef_up), omega (arith, t.coef_down), omega (arith, b, t.coef_up, t.coef_down, apart_read k))
 
 pub loop-i-preserved : goal.loop-i-preserved
 loop-i-preserved c =
     let l = c.loop-i in
-    let t = c.term_shape-t.ensures in
+    let t = c.term_shape.ensures in
     let e = coef-is (goal.at.loop-i-preserved c).After-coef_at in
     let b = ap (λ (z : SettingShape). z.bits) c.setting_shape-s.ensures.0 in
-    let x = c.setting_at-x.ensures.0 in (
-      shaping_turn (shape_map_of c.args.encodings) l.invariant.0 c.requires.few c.term_shape-t.result (omega (arith, l.invariant.1, c.loop-i-test.true))
-          (t.0 ∙ (λ i. weighted_shape (e i) (b i)) ∙ (λ i. weighted_shape (get_or c.args.terms.now (2 * l.i + 1) (pos 0)) (shape_map_of c.args.encodings (x i)).bits)) t.1,
-      l.invariant.1,
-    )
+    let x = c.setting_at-x.ensures.0 in
+    shaping_turn (shape_map_of c.args.encodings) l.invariant c.requires.few c.term_shape.result (c.loop-i-test.true)
+    (t.0 ∙ (λ i. weighted_shape (e i) (b i)) ∙ (λ i. weighted_shape (get_or c.args.terms.now (2 * l.i + 1) (pos 0)) (shape_map_of c.args.encodings (x i)).bits)) t.1
 
 pub returns : goal.returns
 returns c =
     let l = c.loop-i in
-    shaping_end (shape_map_of c.args.encodings) l.invariant.0 c.requires.few (omega (arith, l.invariant.1, c.loop-i-test.false))
+    shaping_end (shape_map_of c.args.encodings) l.invariant c.requires.few (c.loop-i-test.false)

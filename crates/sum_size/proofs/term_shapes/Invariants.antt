@@ -1,13 +1,7 @@
 -- `sum_size::term_shapes` meets its contract.
-use mathlib.Core.Path.{◌≡◌}
-use Prim.Native.Nat.{◌-◌, ◌/◌}
-use lib.ListN.{length}
 use Rattle.log_var.specs.Settings.{shape_map_of}
 use Rattle.sum_size.proofs.Shaping.{Shaping}
 use Rattle.sum_size.proofs.term_shapes.Given as goal
 
 abbrev pub invariant-loop-i : goal.invariant-loop-i
-invariant-loop-i l = Shaping (shape_map_of l.encodings) l.terms l.ts l.i × (l.n ≡ length l.terms / 2)
-
-abbrev pub decreases-loop-i : goal.decreases-loop-i
-decreases-loop-i l = l.n - l.i
+invariant-loop-i l = Shaping (shape_map_of l.encodings) l.terms l.ts l.i

@@ -5,6 +5,6 @@ use Rattle.terms_size.proofs.adder_width.Goals as goal
 
 pub returns : goal.returns
 returns c =
-    let b = c.bit_length-more.ensures in
+    let b = c.bit_length.ensures in
     let m = bit_length_least c.args.constant 25 c.requires.1 in
-    (rw (← b) c.larger.ensures, omega (arith, c.larger.ensures, c.requires.0, b, m))
+    (rw (← b) c.max.ensures, omega (arith, c.max.ensures, c.requires.0, b, m))

@@ -4,4 +4,4 @@ use Rattle.job_file.proofs.calls.open.Goals as goal
 
 pub returns : goal.returns
 unfolding switches_in
-returns c = rw (← c.wide-switches.ensures.0) c.«open».ensures
+returns c = rw (← c.from-switches.ensures) c.«open».ensures
