@@ -3,7 +3,7 @@ ghost use Rattle.std.specs.Prelude.{◌≡◌};
 ghost use Rattle.bench_values.specs.Heights.{product_height, sum_height};
 
 use encoder_env::{EncoderEnv, well_formed};
-use encoder_linear::argument_status;
+use encoder_linear::argument_checks;
 use log_product::mul_height;
 use log_turned::turned_height;
 
@@ -18,30 +18,18 @@ pub fn sum_height(
 ) -> u32
     ensures { result ≡ sum_height env lits ends op constant terms.now }
 {
-    let status = argument_status(env, lits, ends, op, constant, terms);
-    if status != 0 {
-        return 0;
+    match argument_checks(env, lits, ends, op, constant, terms) {
+        Ok(()) => turned_height(env.encodings, op, constant, terms),
+        Err(_) => 0,
     }
-    let encodings = env.encodings;
-    turned_height(encodings, op, constant, terms)
 }
 
 // Of a product: 0 where it is refused before 13 is tested.
 pub fn product_height(env: EncoderEnv, lits: usize, ends: usize, x: u32, y: u32, m: u32) -> u32
     ensures { result ≡ product_height env lits ends x y m }
 {
-    if !well_formed(env, lits, ends) {
+    if !well_formed(env, lits, ends) || x >= env.count || y >= env.count || m >= env.count {
         return 0;
     }
-    if x >= env.count {
-        return 0;
-    }
-    if y >= env.count {
-        return 0;
-    }
-    if m >= env.count {
-        return 0;
-    }
-    let encodings = env.encodings;
-    mul_height(encodings, x, y, m)
+    mul_height(env.encodings, x, y, m)
 }

@@ -7,57 +7,41 @@ mod heights;
 
 use encoder_env::EncoderEnv;
 use lines::{Line, Word};
-use script_calls::{Next, bad, good};
+use refusal::Refusal;
 use std::io;
-use streams::Input;
 
 // The greatest height that the call of a line reaches on this job.
 fn height(word: Word, nums: &[i64], env: EncoderEnv, lits: usize, ends: usize) -> u32 {
     if lines::is_word(word, b"linear") {
         let mut terms = [0i32; 4096];
-        let s = script_calls::sum_of(nums, &mut terms);
-        let n = s.count;
-        return heights::sum_height(env, lits, ends, s.op, s.constant, &terms[..n]);
+        return match script_calls::sum_of(nums, &mut terms) {
+            Some(s) => heights::sum_height(env, lits, ends, s.op, s.constant, s.terms),
+            None => 0,
+        };
     }
     if lines::is_word(word, b"mul") {
-        let p = script_calls::product_of(nums);
-        return heights::product_height(env, lits, ends, p.x, p.y, p.m);
+        return match script_calls::product_of(nums) {
+            Some(p) => heights::product_height(env, lits, ends, p.x, p.y, p.m),
+            None => 0,
+        };
     }
     0
 }
 
 // `STATUS HEIGHT`
-fn show<R: Print>(rt: &R, status: u32, height: u32) -> bool {
-    rt.print(status).is_ok()
-        && rt.write_all(b" ").is_ok()
-        && rt.print(height).is_ok()
-        && rt.write_all(b"\n").is_ok()
-}
-
-// The job after a line, whether the line could be read, and whether its answer could be written.
-#[derive(Clone, Copy)]
-struct Answered {
-    next: Next,
-    written: bool,
-}
-
-// A line that prints nothing.
-fn silent(next: Next) -> Answered {
-    Answered {
-        next,
-        written: true,
-    }
+fn show<R: Print>(rt: &R, answer: Result<i32, Refusal>, height: u32) -> io::Result<()> {
+    rt.print(answer.map_or_else(|refusal| refusal.number(), |_| 0))?;
+    rt.write_all(b" ")?;
+    rt.print(height)?;
+    rt.write_all(b"\n")
 }
 
 // Whether these are the lengths that both stores have here.
 fn are_lengths(nums: &[i64]) -> bool {
-    if nums.len() != 2 {
-        return false;
-    }
-    nums[0] == 524288 && nums[1] == 131072
+    nums == [524288, 131072].as_slice()
 }
 
-// A line with this word and these integers.
+// A line with this word and these integers: the job after it, none if it cannot be read.
 fn answer<R: Print>(
     rt: &R,
     word: Word,
@@ -65,20 +49,16 @@ fn answer<R: Print>(
     env: EncoderEnv,
     lits: &mut [u32],
     ends: &mut [u32],
-) -> Answered {
+) -> io::Result<Option<EncoderEnv>> {
     if lines::is_word(word, b"stores") {
-        if are_lengths(nums) {
-            return silent(good(env));
-        }
-        return silent(bad(env));
+        return Ok(are_lengths(nums).then_some(env));
     }
     let most = height(word, nums, env, lits.len(), ends.len());
-    let next = script_calls::call(word, nums, env, lits, ends);
-    if !next.good {
-        return silent(next);
-    }
-    let written = show(rt, next.status, most);
-    Answered { next, written }
+    let Some(called) = script_calls::call(word, nums, env, lits, ends) else {
+        return Ok(None);
+    };
+    show(rt, called.answer, most)?;
+    Ok(Some(called.env))
 }
 
 // A line that ends here.
@@ -89,53 +69,34 @@ fn end_line<R: Print>(
     env: EncoderEnv,
     lits: &mut [u32],
     ends: &mut [u32],
-) -> Answered {
+) -> io::Result<Option<EncoderEnv>> {
     let whole = lines::line_whole(nums, line);
-    let word = whole.word;
     let numbers = whole.numbers;
-    let n = numbers.count;
     if !numbers.good {
-        return silent(bad(env));
+        return Ok(None);
     }
-    answer(rt, word, &nums[..n], env, lits, ends)
+    answer(rt, whole.word, &nums[..numbers.count], env, lits, ends)
 }
 
-// All lines, from the job of all 0. Answers whether all could be written.
-fn run<R: Print>(rt: &R, s: &[u8], nums: &mut [i64], lits: &mut [u32], ends: &mut [u32]) -> bool {
+// All lines, from the job of all 0.
+fn run<R: Print>(
+    rt: &R,
+    s: &[u8],
+    nums: &mut [i64],
+    lits: &mut [u32],
+    ends: &mut [u32],
+) -> io::Result<()> {
     let mut env = encoder_read::opened(0);
     let mut at: usize = 0;
     while at < s.len() {
         let fed = lines::feed(nums, lines::line_start(), s, at);
-        let line = fed.line;
-        let answered = end_line(rt, line, nums, env, lits, ends);
-        let next = answered.next;
-        if !answered.written {
-            return false;
-        }
-        if !next.good {
-            return rt.write_all(b"bad line\n").is_ok();
-        }
-        env = next.env;
+        let Some(next) = end_line(rt, fed.line, nums, env, lits, ends)? else {
+            return rt.write_all(b"bad line\n");
+        };
+        env = next;
         at = fed.next;
     }
-    true
-}
-
-// The lines of standard input, up to the length of `input`.
-fn run_input<R: io::Input + Print + Eprint>(
-    rt: &R,
-    input: &mut [u8],
-    nums: &mut [i64],
-    lits: &mut [u32],
-    ends: &mut [u32],
-) {
-    let Input::Bytes(n) = streams::read_input(rt, input) else {
-        streams::cannot_read(rt);
-        return;
-    };
-    if !run(rt, &input[..n], nums, lits, ends) {
-        streams::cannot_write(rt);
-    }
+    Ok(())
 }
 
 // The arrays' types say how long they are, so that the check does not count their entries.
@@ -146,7 +107,7 @@ fn run_in_arrays<R: io::Input + Print + Eprint>(
     lits: &mut [u32; 524288],
     ends: &mut [u32; 131072],
 ) {
-    run_input(rt, input, nums, lits, ends);
+    streams::answer_input(rt, input, |s| run(rt, s, nums, lits, ends));
 }
 
 fn main(rt: HostRuntime) {

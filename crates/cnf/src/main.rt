@@ -1,12 +1,10 @@
 // Prints the clauses of the job file on standard input as DIMACS, or `refused F N`. Where reading fails, nothing is printed.
 #![tactic(auto)]
 
-use streams::Input;
-
 fn main(rt: HostRuntime) {
     let mut input = [0u8; 8193];
     let mut out = [0u8; 65551];
-    let Input::Bytes(n) = streams::read_input(&rt, &mut input) else {
+    let Ok(n) = streams::read_input(&rt, &mut input) else {
         streams::cannot_read(&rt);
         return;
     };

@@ -1,16 +1,9 @@
 // Prints job after job as `cnf` does: standard input holds job files, each behind its length in two bytes, the high byte first.
 #![tactic(auto)]
 
-ghost use Rattle.std.specs.Prelude.{◌<◌, ◌≤◌, length};
+ghost use Rattle.std.specs.Prelude.{◌≤◌, length};
 
 use std::io;
-use streams::Input;
-
-fn wide(x: u8) -> usize
-    ensures { result < 256 }
-{
-    x as usize
-}
 
 // The next `len` bytes, or those that are left: a job file. Answers whether they could be read and their text written.
 fn print_next<R: io::Input + Print + Eprint>(
@@ -21,7 +14,7 @@ fn print_next<R: io::Input + Print + Eprint>(
 ) -> bool
     requires { (8193 ≤ length input.old) × (len ≤ length input.old) × (65551 ≤ length out.old) }
 {
-    let Input::Bytes(n) = streams::read_input(rt, &mut input[..len]) else {
+    let Ok(n) = streams::read_input(rt, &mut input[..len]) else {
         streams::cannot_read(rt);
         return false;
     };
@@ -38,19 +31,17 @@ fn main(rt: HostRuntime) {
     let mut head = [0u8; 2];
     let mut input = [0u8; 65535];
     let mut out = [0u8; 65551];
-    let mut turns: u64 = 18446744073709551615;
-    while turns > 0 {
-        let Input::Bytes(n) = streams::read_input(&rt, &mut head) else {
+    for _ in 0..u64::MAX {
+        let Ok(n) = streams::read_input(&rt, &mut head) else {
             streams::cannot_read(&rt);
             return;
         };
         if n < 2 {
             return;
         }
-        let len = 256 * wide(head[0]) + wide(head[1]);
+        let len = usize::from(u16::from_be_bytes(head));
         if !print_next(&rt, len, &mut input, &mut out) {
             return;
         }
-        turns -= 1;
     }
 }

@@ -2,53 +2,32 @@
 #![tactic(auto)]
 
 ghost use Rattle.std.specs.Prelude.{◌≤◌, length};
-ghost use Rattle.script.specs.Run.{Lent};
 
-use script::Part;
+use script::Stop;
 use std::io;
-use streams::Input;
-
-// The end of a run.
-fn end_run<R: Print + Eprint>(
-    rt: &R,
-    part: Part,
-    nums: &mut [i64],
-    lits: &mut [u32],
-    ends: &mut [u32],
-)
-    requires { Lent part.run lits.old ends.old }
-{
-    if !script::finish(rt, part, nums, lits, ends) {
-        streams::cannot_write(rt);
-    }
-}
 
 // Reads and answers until the input ends, a line cannot be read, or reading or writing fails. (No input has 2 ^ 64 times 65,536 bytes.)
-fn run_input<R: io::Input + Print + Eprint>(
+fn run<R: io::Input + Print + Eprint>(
     rt: &R,
     input: &mut [u8],
     nums: &mut [i64],
     lits: &mut [u32],
     ends: &mut [u32],
-)
+) -> Result<(), Stop>
     requires { (8192 ≤ length lits.old) × (4096 ≤ length ends.old) }
 {
     let mut part = script::start();
-    let mut turns: u64 = 18446744073709551615;
-    while turns > 0 {
-        let Input::Bytes(n) = streams::read_input(rt, input) else {
+    for _ in 0..u64::MAX {
+        let Ok(n) = streams::read_input(rt, input) else {
             streams::cannot_read(rt);
-            return;
+            return Ok(());
         };
-        let next = script::run_part(rt, &input[..n], part, nums, lits, ends);
-        part = next;
-        let run = part.run;
-        if n < input.len() || script::stops(run) {
-            end_run(rt, part, nums, lits, ends);
-            return;
+        part = script::run_part(rt, &input[..n], part, nums, lits, ends)?;
+        if n < input.len() {
+            return script::finish(rt, part, nums, lits, ends);
         }
-        turns -= 1;
     }
+    Ok(())
 }
 
 // The arrays' types say how long they are, so that the check does not count their entries.
@@ -59,7 +38,9 @@ fn run_in_arrays<R: io::Input + Print + Eprint>(
     lits: &mut [u32; 524288],
     ends: &mut [u32; 131072],
 ) {
-    run_input(rt, input, nums, lits, ends);
+    if let Err(Stop::CannotWrite(_)) = run(rt, input, nums, lits, ends) {
+        streams::cannot_write(rt);
+    }
 }
 
 fn main(rt: HostRuntime) {

@@ -4,63 +4,44 @@
 
 ghost use Rattle.std.specs.Prelude.{◌≤◌, length};
 
-use script::Part;
+use script::{Part, Stop};
 use std::io;
-use streams::Input;
 
-// One line, on a job and stores of all 0. Answers whether its answer could be written.
+// One line, on a job and stores of all 0. One that cannot be read is no failure here.
 fn run_line<R: Print>(
     rt: &R,
     line: lines::Line,
     nums: &mut [i64],
     lits: &mut [u32],
     ends: &mut [u32],
-) -> bool
+) -> io::Result<()>
     requires { (8192 ≤ length lits.old) × (4096 ≤ length ends.old) }
 {
     script_state::clear(lits);
     script_state::clear(ends);
-    let start = script::start();
-    let run = start.run;
-    script::finish(rt, Part { line, run }, nums, lits, ends)
+    let run = script::start().run;
+    match script::finish(rt, Part { line, run }, nums, lits, ends) {
+        Err(Stop::CannotWrite(error)) => Err(error),
+        _ => Ok(()),
+    }
 }
 
-fn run_lines<R: Print + Eprint>(
+fn run_lines<R: Print>(
     rt: &R,
     s: &[u8],
     nums: &mut [i64],
     lits: &mut [u32],
     ends: &mut [u32],
-)
+) -> io::Result<()>
     requires { (8192 ≤ length lits.old) × (4096 ≤ length ends.old) }
 {
     let mut at: usize = 0;
     while at < s.len() {
         let fed = lines::feed(nums, lines::line_start(), s, at);
-        let line = fed.line;
-        if !run_line(rt, line, nums, lits, ends) {
-            streams::cannot_write(rt);
-            return;
-        }
+        run_line(rt, fed.line, nums, lits, ends)?;
         at = fed.next;
     }
-}
-
-// The lines of standard input, up to the length of `input`.
-fn run_input<R: io::Input + Print + Eprint>(
-    rt: &R,
-    input: &mut [u8],
-    nums: &mut [i64],
-    lits: &mut [u32],
-    ends: &mut [u32],
-)
-    requires { (8192 ≤ length lits.old) × (4096 ≤ length ends.old) }
-{
-    let Input::Bytes(n) = streams::read_input(rt, input) else {
-        streams::cannot_read(rt);
-        return;
-    };
-    run_lines(rt, &input[..n], nums, lits, ends);
+    Ok(())
 }
 
 // The arrays' types say how long they are, so that the check does not count their entries.
@@ -71,7 +52,7 @@ fn run_in_arrays<R: io::Input + Print + Eprint>(
     lits: &mut [u32; 524288],
     ends: &mut [u32; 131072],
 ) {
-    run_input(rt, input, nums, lits, ends);
+    streams::answer_input(rt, input, |s| run_lines(rt, s, nums, lits, ends));
 }
 
 fn main(rt: HostRuntime) {

@@ -15,12 +15,12 @@
 mod print;
 mod words;
 
-ghost use Rattle.std.specs.Prelude.{◌≡◌, ◌≤◌};
+ghost use Rattle.std.specs.Prelude.{◌≡◌, ◌≤◌, IfOk, IfSome, length};
 ghost use Rattle.script.specs.Run.{Lent};
 
 use encoder_env::EncoderEnv;
-use lines::{Line, Unsigned, Word};
-use words::Answered;
+use lines::{Line, Word, number_at};
+pub use words::Stop;
 
 // What is kept from line to line.
 #[derive(Clone, Copy)]
@@ -31,123 +31,32 @@ pub struct Run {
     pub ends: usize,
     // lines read
     pub number: u64,
-    // whether each of them could be read
-    pub good: bool,
-    // whether all answers could be written
-    pub written: bool,
-}
-
-// The run after a line that left this job.
-fn with_job(run: Run, next: Answered) -> Run
-    ensures { (result.lits ≡ run.lits) × (result.ends ≡ run.ends) }
-{
-    let env = next.env;
-    Run {
-        env,
-        lits: run.lits,
-        ends: run.ends,
-        number: run.number,
-        good: next.good,
-        written: next.written,
-    }
-}
-
-// The run with stores of these lengths.
-fn with_stores(run: Run, lits: usize, ends: usize) -> Run
-    ensures { (result.lits ≡ lits) × (result.ends ≡ ends) }
-{
-    let env = run.env;
-    Run {
-        env,
-        lits,
-        ends,
-        number: run.number,
-        good: run.good,
-        written: run.written,
-    }
-}
-
-// The run after a line that cannot be read.
-fn stopped(run: Run) -> Run
-    ensures { (result.lits ≡ run.lits) × (result.ends ≡ run.ends) }
-{
-    let env = run.env;
-    Run {
-        env,
-        lits: run.lits,
-        ends: run.ends,
-        number: run.number,
-        good: false,
-        written: run.written,
-    }
-}
-
-// The run with one line more. (No input has 2 ^ 64 lines.)
-fn with_line(run: Run) -> Run
-    ensures { (result.lits ≡ run.lits) × (result.ends ≡ run.ends) }
-{
-    let env = run.env;
-    let number = run.number;
-    Run {
-        env,
-        lits: run.lits,
-        ends: run.ends,
-        number: if number < 18446744073709551615 {
-            number + 1
-        } else {
-            number
-        },
-        good: run.good,
-        written: run.written,
-    }
-}
-
-// Whether a line could not be read or an answer not be written.
-pub fn stops(run: Run) -> bool {
-    !run.good || !run.written
-}
-
-// A store's length, if it is within bounds.
-#[derive(Clone, Copy)]
-struct Length {
-    value: usize,
-    good: bool,
 }
 
 // Number i of a line as a length of at most `most`.
-fn length_at(nums: &[i64], i: usize, most: usize) -> Length
-    ensures { result.value ≤ most }
+fn length_at(nums: &[i64], i: usize, most: usize) -> Option<usize>
+    ensures { IfSome result (λ n. n ≤ most) }
 {
-    let none = Length {
-        value: 0,
-        good: false,
-    };
-    let Unsigned::Value(x) = lines::unsigned_at(nums, i) else {
-        return none;
-    };
-    let n = x as usize;
-    if n > most {
-        return none;
-    }
-    Length {
-        value: n,
-        good: true,
-    }
+    let n: u32 = number_at(nums, i)?;
+    (n as usize <= most).then_some(n as usize)
 }
 
 // `stores L E`
-fn run_stores(nums: &[i64], run: Run, lits: &mut [u32], ends: &mut [u32]) -> Run
-    requires { Lent run lits.old ends.old }
-    ensures { Lent result lits.new ends.new }
+fn run_stores(nums: &[i64], run: Run, lits: &mut [u32], ends: &mut [u32]) -> Option<Run>
+    ensures { IfSome result (λ r. Lent r lits.new ends.new) }
 {
-    let l = length_at(nums, 0, lits.len());
-    let e = length_at(nums, 1, ends.len());
-    if nums.len() != 2 || !l.good || !e.good {
-        return stopped(run);
+    if nums.len() != 2 {
+        return None;
     }
+    let l = length_at(nums, 0, lits.len())?;
+    let e = length_at(nums, 1, ends.len())?;
     script_state::clear(lits);
     script_state::clear(ends);
-    with_stores(run, l.value, e.value)
+    Some(Run {
+        lits: l,
+        ends: e,
+        ..run
+    })
 }
 
 // A line with this word and these integers.
@@ -158,21 +67,42 @@ fn answer<R: Print>(
     run: Run,
     lits: &mut [u32],
     ends: &mut [u32],
-) -> Run
+) -> Result<Run, Stop>
     requires { Lent run lits.old ends.old }
-    ensures { Lent result lits.new ends.new }
+    ensures { IfOk result (λ r. Lent r lits.new ends.new) }
 {
     if lines::is_word(word, b"stores") {
-        return run_stores(nums, run, lits, ends);
+        return run_stores(nums, run, lits, ends).ok_or(Stop::BadLine);
     }
-    let l = run.lits;
-    let e = run.ends;
-    let env = run.env;
-    let next = words::answer(rt, word, nums, env, &mut lits[..l], &mut ends[..e]);
-    with_job(run, next)
+    let lent = &mut lits[..run.lits];
+    let env = words::answer(rt, word, nums, run.env, lent, &mut ends[..run.ends])?;
+    Ok(Run { env, ..run })
 }
 
 // A line that ends here: it is answered, unless it is empty.
+fn answer_line<R: Print>(
+    rt: &R,
+    line: Line,
+    nums: &mut [i64],
+    run: Run,
+    lits: &mut [u32],
+    ends: &mut [u32],
+) -> Result<Run, Stop>
+    requires { Lent run lits.old ends.old }
+    ensures { IfOk result (λ r. Lent r lits.new ends.new) }
+{
+    if lines::is_empty(line) {
+        return Ok(run);
+    }
+    let whole = lines::line_whole(nums, line);
+    let numbers = whole.numbers;
+    if !numbers.good {
+        return Err(Stop::BadLine);
+    }
+    answer(rt, whole.word, &nums[..numbers.count], run, lits, ends)
+}
+
+// The same of one line more, which is named if it cannot be read. (No input has 2 ^ 64 lines.)
 fn end_line<R: Print>(
     rt: &R,
     line: Line,
@@ -180,22 +110,17 @@ fn end_line<R: Print>(
     run: Run,
     lits: &mut [u32],
     ends: &mut [u32],
-) -> Run
+) -> Result<Run, Stop>
     requires { Lent run lits.old ends.old }
-    ensures { Lent result lits.new ends.new }
+    ensures { IfOk result (λ r. Lent r lits.new ends.new) }
 {
-    let counted = with_line(run);
-    if lines::is_empty(line) {
-        return counted;
+    let number = run.number.saturating_add(1);
+    let counted = Run { number, ..run };
+    let answered = answer_line(rt, line, nums, counted, lits, ends);
+    if let Err(Stop::BadLine) = answered {
+        print::bad_line(rt, number)?;
     }
-    let whole = lines::line_whole(nums, line);
-    let word = whole.word;
-    let numbers = whole.numbers;
-    let n = numbers.count;
-    if !numbers.good {
-        return stopped(counted);
-    }
-    answer(rt, word, &nums[..n], counted, lits, ends)
+    answered
 }
 
 // The line that the next bytes continue, and the run up to it.
@@ -213,46 +138,34 @@ pub fn run_part<R: Print>(
     nums: &mut [i64],
     lits: &mut [u32],
     ends: &mut [u32],
-) -> Part
+) -> Result<Part, Stop>
     requires { Lent part.run lits.old ends.old }
-    ensures { Lent result.run lits.new ends.new }
+    ensures { IfOk result (λ p. Lent p.run lits.new ends.new) }
 {
     let mut line = part.line;
     let mut run = part.run;
     let mut at: usize = 0;
     while at < s.len() {
         let fed = lines::feed(nums, line, s, at);
-        let to = fed.at;
-        let fed_line = fed.line;
-        if to == s.len() {
-            return Part {
-                line: fed_line,
-                run,
-            };
-        }
-        let next = end_line(rt, fed_line, nums, run, lits, ends);
-        run = next;
-        line = lines::line_start();
-        if stops(run) {
-            return Part { line, run };
+        line = fed.line;
+        if fed.at < s.len() {
+            run = end_line(rt, line, nums, run, lits, ends)?;
+            line = lines::line_start();
         }
         at = fed.next;
     }
-    Part { line, run }
+    Ok(Part { line, run })
 }
 
 // The start of a run: the job of all 0.
 pub fn start() -> Part
     ensures { (result.run.lits ≡ 8192) × (result.run.ends ≡ 4096) }
 {
-    let env = encoder_read::opened(0);
     let run = Run {
-        env,
+        env: encoder_read::opened(0),
         lits: 8192,
         ends: 4096,
         number: 0,
-        good: true,
-        written: true,
     };
     Part {
         line: lines::line_start(),
@@ -260,29 +173,18 @@ pub fn start() -> Part
     }
 }
 
-// The line that ends a run where it cannot be read. Answers whether all could be written.
-fn ended<R: Print>(rt: &R, run: Run) -> bool {
-    if !run.written || run.good {
-        return run.written;
-    }
-    print::bad_line(rt, run.number)
-}
-
-// The last line may lack its line feed. A line that cannot be read is named. Answers whether all could be written.
+// The end of a script: its last line may lack its line feed.
 pub fn finish<R: Print>(
     rt: &R,
     part: Part,
     nums: &mut [i64],
     lits: &mut [u32],
     ends: &mut [u32],
-) -> bool
+) -> Result<(), Stop>
     requires { Lent part.run lits.old ends.old }
 {
-    let line = part.line;
-    let run = part.run;
-    if stops(run) || lines::is_empty(line) {
-        return ended(rt, run);
+    if !lines::is_empty(part.line) {
+        end_line(rt, part.line, nums, part.run, lits, ends)?;
     }
-    let last = end_line(rt, line, nums, run, lits, ends);
-    ended(rt, last)
+    Ok(())
 }

@@ -1,191 +1,177 @@
 // One line of a script: what its word asks for, on the job and the lent stores.
-ghost use Rattle.std.specs.Prelude.{◌≡◌, length, ◌≤◌};
-
 use super::print;
+use encoder::Figures;
 use encoder_env::EncoderEnv;
-use lines::{Unsigned, Word};
-use script_calls::{Next, Sized};
+use lines::{Word, number_at};
+use refusal::Refusal;
+use script_calls::Called;
+use std::io;
 
-// The job after a line, whether the line could be read, and whether all of its answer could be written.
-#[derive(Clone, Copy)]
-pub struct Answered {
-    pub env: EncoderEnv,
-    pub good: bool,
-    pub written: bool,
+// Why a run ends before its script does.
+#[derive(Drop)]
+pub enum Stop {
+    BadLine,
+    CannotWrite(io::Error),
 }
 
-// A line that was read, its answer written or not.
-fn read_line(env: EncoderEnv, written: bool) -> Answered {
-    Answered {
-        env,
-        good: true,
-        written,
+impl From<io::Error> for Stop {
+    fn from(error: io::Error) -> Stop {
+        Stop::CannotWrite(error)
     }
-}
-
-// A line that cannot be read: the job stays.
-fn bad(env: EncoderEnv) -> Answered {
-    Answered {
-        env,
-        good: false,
-        written: true,
-    }
-}
-
-// The literals of a clause handed back.
-fn put_part<R: Print>(rt: &R, status: u32, part: &[u32]) -> bool {
-    if status != 0 {
-        return true;
-    }
-    print::text(rt, b" :") && print::entries(rt, part)
 }
 
 // `clause K`
-fn clause<R: Print>(rt: &R, nums: &[i64], env: EncoderEnv, lits: &[u32], ends: &[u32]) -> Answered {
+fn clause<R: Print>(
+    rt: &R,
+    nums: &[i64],
+    env: EncoderEnv,
+    lits: &[u32],
+    ends: &[u32],
+) -> Result<(), Stop> {
     if nums.len() != 1 {
-        return bad(env);
+        return Err(Stop::BadLine);
     }
-    let Unsigned::Value(k) = lines::unsigned_at(nums, 0) else {
-        return bad(env);
-    };
-    let mut status: u32 = 0;
-    let part = encoder::clause(env, lits, ends, k, &mut status);
-    let written = print::answer(rt, status, 0, env)
-        && put_part(rt, status, part)
-        && print::text(rt, b"\n");
-    read_line(env, written)
-}
-
-// The call with these bytes and this lent slice, which is printed as the call left it.
-fn called<R: Print>(
-    rt: &R,
-    reads: bool,
-    env: EncoderEnv,
-    lits: &[u32],
-    ends: &[u32],
-    bytes: &[u8],
-    slice: &mut [u8],
-) -> Answered
-    requires { length slice.old ≤ 131072 }
-{
-    let c = script_calls::lent(reads, env, lits, ends, bytes, slice);
-    let written = print::answer(rt, c.status, c.value, env) && print::bytes(rt, slice);
-    read_line(env, written && print::text(rt, b"\n"))
-}
-
-// `LEN BYTE..`: the bytes go into `bytes`, and the first LEN of `slice` are lent.
-fn lent_of<R: Print>(
-    rt: &R,
-    reads: bool,
-    nums: &[i64],
-    env: EncoderEnv,
-    lits: &[u32],
-    ends: &[u32],
-    bytes: &mut [u8],
-    slice: &mut [u8],
-) -> Answered
-    requires { length slice.old ≡ 131072 }
-{
-    let given = script_calls::given_of(nums, bytes);
-    if !given.good {
-        return bad(env);
+    let k = number_at(nums, 0).ok_or(Stop::BadLine)?;
+    match encoder::clause(env, lits, ends, k) {
+        Ok(part) => {
+            print::answer(rt, Ok(0), env)?;
+            rt.write_all(b" :")?;
+            print::numbers(rt, part)?;
+        }
+        Err(refusal) => print::answer(rt, Err(refusal), env)?,
     }
-    let n = given.len;
-    let m = given.count;
-    called(rt, reads, env, lits, ends, &bytes[..m], &mut slice[..n])
+    rt.write_all(b"\n")?;
+    Ok(())
 }
 
-// The arrays' types say how long they are, so that the check does not count their entries.
-fn lent_in_arrays<R: Print>(
+// `solution LEN BYTE..`, which reads a solver's answer, or `answer LEN BYTE..`, which prints an assignment: the call with these bytes and the
+// first LEN of a lent slice, which is printed as the call left it. Each byte lent is 7 before.
+fn lent<R: Print, F: FnOnce(&[u8], &mut [u8]) -> Result<i32, Refusal>>(
     rt: &R,
-    reads: bool,
     nums: &[i64],
     env: EncoderEnv,
-    lits: &[u32],
-    ends: &[u32],
-    bytes: &mut [u8; 65536],
-    slice: &mut [u8; 131072],
-) -> Answered {
-    lent_of(rt, reads, nums, env, lits, ends, bytes, slice)
-}
-
-// `solution LEN BYTE..`, which reads a solver's answer, or `answer LEN BYTE..`, which prints an assignment. Each byte lent is 7 before.
-fn lent<R: Print>(
-    rt: &R,
-    reads: bool,
-    nums: &[i64],
-    env: EncoderEnv,
-    lits: &[u32],
-    ends: &[u32],
-) -> Answered {
+    call: F,
+) -> Result<(), Stop>
+    requires { F.IsAlwaysCallable call }
+{
     let mut bytes = [0u8; 65536];
     let mut slice = [7u8; 131072];
-    lent_in_arrays(rt, reads, nums, env, lits, ends, &mut bytes, &mut slice)
+    let given = script_calls::given_of(nums, &mut bytes).ok_or(Stop::BadLine)?;
+    let part = slice.get_mut(..given.len).ok_or(Stop::BadLine)?;
+    let answer = call(given.bytes, part);
+    print::answer(rt, answer, env)?;
+    rt.write_all(b" :")?;
+    print::numbers(rt, part)?;
+    rt.write_all(b"\n")?;
+    Ok(())
 }
 
 // `job ..`
-fn job(nums: &[i64], env: EncoderEnv) -> Answered {
+fn job(nums: &[i64]) -> Result<EncoderEnv, Stop> {
     if script_state::is_job(nums) {
-        return read_line(script_state::job_of(nums), true);
+        Ok(script_state::job_of(nums))
+    } else {
+        Err(Stop::BadLine)
     }
-    bad(env)
 }
 
 // `lits I X`, `ends I X`
-fn entry(nums: &[i64], env: EncoderEnv, store: &mut [u32]) -> Answered {
+fn entry(nums: &[i64], store: &mut [u32]) -> Option<()> {
     if nums.len() != 2 {
-        return bad(env);
+        return None;
     }
-    let Unsigned::Value(i) = lines::unsigned_at(nums, 0) else {
-        return bad(env);
-    };
-    let Unsigned::Value(x) = lines::unsigned_at(nums, 1) else {
-        return bad(env);
-    };
-    let at = i as usize;
-    if at >= store.len() {
-        return bad(env);
-    }
-    store[at] = x;
-    read_line(env, true)
+    let i: u32 = number_at(nums, 0)?;
+    let x = number_at(nums, 1)?;
+    *store.get_mut(i as usize)? = x;
+    Some(())
 }
 
 // `show`
-fn show<R: Print>(rt: &R, nums: &[i64], env: EncoderEnv, lits: &[u32], ends: &[u32]) -> Answered {
+fn show<R: Print>(
+    rt: &R,
+    nums: &[i64],
+    env: EncoderEnv,
+    lits: &[u32],
+    ends: &[u32],
+) -> Result<(), Stop> {
     if nums.len() != 0 {
-        return bad(env);
+        return Err(Stop::BadLine);
     }
-    let first = print::job(rt, env) && print::text(rt, b"lits") && print::entries(rt, lits);
-    let written = first
-        && print::text(rt, b"\nends")
-        && print::entries(rt, ends)
-        && print::text(rt, b"\n");
-    read_line(env, written)
+    print::job(rt, env)?;
+    rt.write_all(b"lits")?;
+    print::numbers(rt, lits)?;
+    rt.write_all(b"\nends")?;
+    print::numbers(rt, ends)?;
+    rt.write_all(b"\n")?;
+    Ok(())
 }
 
 // The answer of a call is printed.
-fn printed<R: Print>(rt: &R, next: Next) -> Answered {
-    let env = next.env;
-    if !next.good {
-        return bad(env);
-    }
-    let written = print::answer(rt, next.status, next.value, env) && print::text(rt, b"\n");
-    read_line(env, written)
+fn printed<R: Print>(rt: &R, called: Option<Called>) -> Result<EncoderEnv, Stop> {
+    let called = called.ok_or(Stop::BadLine)?;
+    print::answer(rt, called.answer, called.env)?;
+    rt.write_all(b"\n")?;
+    Ok(called.env)
 }
 
-// The figures of a rule are printed behind a colon; the job stays.
-fn sized<R: Print>(rt: &R, s: Sized, env: EncoderEnv) -> Answered {
-    if !s.good {
-        return bad(env);
-    }
-    let f = s.figures;
-    let written = print::answer(rt, f.status, 0, env)
-        && print::figures(rt, f)
-        && print::text(rt, b"\n");
-    read_line(env, written)
+// The figures of a rule are printed behind a colon, 0 where it is refused.
+fn sized<R: Print>(
+    rt: &R,
+    figures: Option<Result<Figures, Refusal>>,
+    env: EncoderEnv,
+) -> Result<(), Stop> {
+    let (answer, counts) = match figures.ok_or(Stop::BadLine)? {
+        Ok(f) => (Ok(0), [f.variables, f.clauses, f.literals]),
+        Err(refusal) => (Err(refusal), [0; 3]),
+    };
+    print::answer(rt, answer, env)?;
+    rt.write_all(b" :")?;
+    print::numbers(rt, &counts)?;
+    rt.write_all(b"\n")?;
+    Ok(())
 }
 
-// Every word but `stores`.
+// A word that leaves the job as it is, if it is one.
+fn kept<R: Print>(
+    rt: &R,
+    word: Word,
+    nums: &[i64],
+    env: EncoderEnv,
+    lits: &mut [u32],
+    ends: &mut [u32],
+) -> Option<Result<(), Stop>> {
+    if lines::is_word(word, b"clause") {
+        return Some(clause(rt, nums, env, lits, ends));
+    }
+    if lines::is_word(word, b"solution") {
+        return Some(lent(rt, nums, env, |text, slice| {
+            script_calls::read_solution(env, lits, ends, text, slice)
+        }));
+    }
+    if lines::is_word(word, b"answer") {
+        return Some(lent(rt, nums, env, |assignment, slice| {
+            script_calls::print_answer(env, lits, ends, assignment, slice)
+        }));
+    }
+    if lines::is_word(word, b"size") {
+        return Some(sized(rt, script_calls::size(nums, env), env));
+    }
+    if lines::is_word(word, b"size_mul") {
+        return Some(sized(rt, script_calls::size_mul(nums, env), env));
+    }
+    if lines::is_word(word, b"lits") {
+        return Some(entry(nums, lits).ok_or(Stop::BadLine));
+    }
+    if lines::is_word(word, b"ends") {
+        return Some(entry(nums, ends).ok_or(Stop::BadLine));
+    }
+    if lines::is_word(word, b"show") {
+        return Some(show(rt, nums, env, lits, ends));
+    }
+    None
+}
+
+// Every word but `stores`: the job after the line.
 pub fn answer<R: Print>(
     rt: &R,
     word: Word,
@@ -193,36 +179,16 @@ pub fn answer<R: Print>(
     env: EncoderEnv,
     lits: &mut [u32],
     ends: &mut [u32],
-) -> Answered {
+) -> Result<EncoderEnv, Stop> {
     if lines::is_word(word, b"read") {
         return printed(rt, script_calls::read(nums, env, lits, ends));
     }
-    if lines::is_word(word, b"clause") {
-        return clause(rt, nums, env, lits, ends);
-    }
-    if lines::is_word(word, b"solution") {
-        return lent(rt, true, nums, env, lits, ends);
-    }
-    if lines::is_word(word, b"answer") {
-        return lent(rt, false, nums, env, lits, ends);
-    }
-    if lines::is_word(word, b"size") {
-        return sized(rt, script_calls::size(nums, env), env);
-    }
-    if lines::is_word(word, b"size_mul") {
-        return sized(rt, script_calls::size_mul(nums, env), env);
-    }
     if lines::is_word(word, b"job") {
-        return job(nums, env);
+        return job(nums);
     }
-    if lines::is_word(word, b"lits") {
-        return entry(nums, env, lits);
-    }
-    if lines::is_word(word, b"ends") {
-        return entry(nums, env, ends);
-    }
-    if lines::is_word(word, b"show") {
-        return show(rt, nums, env, lits, ends);
+    if let Some(answered) = kept(rt, word, nums, env, lits, ends) {
+        answered?;
+        return Ok(env);
     }
     printed(rt, script_calls::call(word, nums, env, lits, ends))
 }

@@ -2,14 +2,12 @@
 // Where reading fails, nothing is printed.
 #![tactic(auto)]
 
-ghost use Rattle.std.specs.Prelude.{length, ◌≤◌};
-ghost use Rattle.streams.specs.Input.{bytes_read};
+ghost use Rattle.std.specs.Prelude.{length, ◌≤◌, IfSome};
 
 use job_values::Values;
 use std::env::{Env, FillError};
 use std::fs::Files;
 use std::{fs, io};
-use streams::Input;
 
 // One byte more than an answer may have, so that one too long is seen.
 const ANSWER: usize = 1048577;
@@ -21,20 +19,14 @@ fn has_argument<R: Env>(rt: &R) -> bool {
 
 // Reads the file named by the first argument. No file is found whose name is longer than the buffer, or is not text in UTF-8, which std
 // asks of a path. The file is closed at the end, so that it is not taken for standard input where that was closed.
-fn read_job<R: Env + Files>(rt: &R, buf: &mut [u8]) -> Input
-    ensures { bytes_read result ≤ length buf.old }
+fn read_job<R: Env + Files>(rt: &R, buf: &mut [u8]) -> Option<usize>
+    ensures { IfSome result (λ n. n ≤ length buf.old) }
 {
     let mut name = [0u8; 4096];
-    let Ok(size) = rt.arg(1, &mut name) else {
-        return Input::Failed;
-    };
-    let Ok(path) = str::from_utf8(&name[..size]) else {
-        return Input::Failed;
-    };
-    let Ok(mut file) = fs::open(rt, path) else {
-        return Input::Failed;
-    };
-    streams::read_from(&mut file, buf)
+    let size = rt.arg(1, &mut name).ok()?;
+    let path = str::from_utf8(&name[..size]).ok()?;
+    let mut file = fs::open(rt, path).ok()?;
+    streams::read_from(&mut file, buf).ok()
 }
 
 // Prints the values that standard input gives to the job file in the first n bytes of `file`.
@@ -42,7 +34,7 @@ fn print_values<R: io::Input + Print + Eprint>(rt: &R, file: &[u8], n: usize, an
     requires { (8193 ≤ length file.now) × (n ≤ length file.now) × (1048577 ≤ length answer.old) }
 {
     let mut out = [0u8; 1440];
-    let Input::Bytes(m) = streams::read_input(rt, answer) else {
+    let Ok(m) = streams::read_input(rt, answer) else {
         streams::cannot_read(rt);
         return;
     };
@@ -58,7 +50,7 @@ fn print_values<R: io::Input + Print + Eprint>(rt: &R, file: &[u8], n: usize, an
 // The array's type says how long it is, so that the check does not count its entries.
 fn run<R: Env + Files + io::Input + Print + Eprint>(rt: &R, answer: &mut [u8; ANSWER]) {
     let mut file = [0u8; 8193];
-    let Input::Bytes(n) = read_job(rt, &mut file) else {
+    let Some(n) = read_job(rt, &mut file) else {
         let _ = rt.eprintln("cannot read the job file");
         return;
     };

@@ -15,32 +15,32 @@ use Rattle.encoder_linear.proofs.Added.{ArgumentsKnown, arguments_known}
 use Rattle.encoder_linear.proofs.Ready.{terms_ready}
 use Rattle.bench_values.specs.Heights.{sum_height}
 use Rattle.bench_values.proofs.heights.sum_height.Goals as goal
-use Rattle.bench_values.proofs.heights.sum_height.Goals.{Else-status-ne0}
+use Rattle.bench_values.proofs.heights.sum_height.Goals.{In-Ok}
 
 -- the constant, as the callees have it
-abbrev given : Else-status-ne0 → ℤ
+abbrev given : In-Ok → ℤ
 given c = to_z w32 (of_z w32 c.args.constant)
 
-passed : (c : Else-status-ne0) → let a = c.args in status_of (argument_checks a.env a.lits a.ends a.op (given c) a.terms.now) ≡ 0
-passed c = sym c.argument_status-status.ensures ∙ c.if-status-ne0.false
+passed : (c : In-Ok) → let a = c.args in status_of (argument_checks a.env a.lits a.ends a.op (given c) a.terms.now) ≡ 0
+passed c = sym c.in-Ok.ensures
 
-known : (c : Else-status-ne0) → let a = c.args in ArgumentsKnown a.env a.lits a.ends a.op (given c) a.terms.now
+known : (c : In-Ok) → let a = c.args in ArgumentsKnown a.env a.lits a.ends a.op (given c) a.terms.now
 known c = let a = c.args in arguments_known a.env a.lits a.ends a.op (given c) a.terms.now (passed c)
 
 pub turned_height-requires-clause-terms_ready : goal.turned_height-requires-clause-terms_ready
 turned_height-requires-clause-terms_ready c =
-    let s = (goal.at.turned_height-requires-clause-terms_ready c).Else-status-ne0 in
+    let s = (goal.at.turned_height-requires-clause-terms_ready c).In-Ok in
     let a = c.args in
     terms_ready a.env a.lits a.ends a.op (given s) a.terms.now (known s)
 
 pub turned_height-requires-clause-constant_bound : goal.turned_height-requires-clause-constant_bound
 turned_height-requires-clause-constant_bound c =
-    let k = known (goal.at.turned_height-requires-clause-constant_bound c).Else-status-ne0 in
+    let k = known (goal.at.turned_height-requires-clause-constant_bound c).In-Ok in
     (omega (arith, k.constant_small), omega (arith, k.constant_small))
 
-pub returns : goal.returns
-returns c =
-    let s = (goal.at.returns c).Else-status-ne0 in
+pub returns-in-Ok : goal.returns-in-Ok
+returns-in-Ok c =
+    let s = (goal.at.returns-in-Ok c).In-Ok in
     let a = c.args in
     let h = greatest_height (sum_reached a.env a.op (given s) a.terms.now) in
     let k : c.turned_height.result ≡ sum_height a.env a.lits a.ends a.op (given s) a.terms.now =
