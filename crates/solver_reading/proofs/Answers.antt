@@ -118,9 +118,6 @@ module _ (n : ℕ) (text : List ℕ) where
         let g : each_given n (numbers ks) ≡ true = rw s at a.is_given in
         record { answer = h ∙ solution_is (length out); bytes = w ∙ given_bytes a.is_whole s g ∙ rw k }
 
-    pub room_fits : {r : Result Solution Refusal} → r ≡ run_solution n z (length out) → r ≡ Ok Assignment → length out ≡ n
-    room_fits h k = (accepted (length out) (sym (solution_is (length out)) ∙ sym h ∙ k)).as_long
-
 -- The call itself, where `given` has a place for each variable, all open ----------------------------------------------------
 
 module _ (n n' : ℕ) (text : List ℕ) (room : ℕ) {st first : State} {given given' : List (Option Bool)}

@@ -6,7 +6,7 @@ use Rattle.std.proofs.Common.{rules}
 use Rattle.std.specs.Prelude.{Err, Ok}
 use Rattle.solver_answer.specs.declared.Solution.TheVariants.{Assignment, Unsatisfiable}
 use Rattle.solver_reading.specs.Reading.{byte}
-use Rattle.solver_reading.proofs.Answers.{all_given, no_both, no_ok, ok_same, read_found, read_kept, room_fits, solved}
+use Rattle.solver_reading.proofs.Answers.{all_given, no_both, no_ok, ok_same, read_found, read_kept, solved}
 use Rattle.solver_reading.proofs.read_over.Goals as goal
 
 pub returns-in_err-solution : goal.returns-in_err-solution
@@ -16,14 +16,6 @@ returns-in_err-solution c =
     let s = solved (length a.given.now) (length c.after_lines-st.new.given) a.answer.now (length a.out.now) c.after_lines-st.ensures c.begun.ensures c.requires.open l c.solution.ensures in
     let is : c.from_residual.result ≡ Err c.in_err-solution.field-0.0 = search rules in
     read_kept (length a.given.now) a.answer.now a.out.now (is ∙ sym c.in_err-solution.was ∙ s) (λ q. no_ok (sym is ∙ q))
-
-pub put_bytes-requires : goal.put_bytes-requires
-put_bytes-requires c =
-    let a = c.args in
-    let l : length c.after_lines-st.new.given ≡ length a.given.now = search rules in
-    let s = solved (length a.given.now) (length c.after_lines-st.new.given) a.answer.now (length a.out.now) c.after_lines-st.ensures c.begun.ensures c.requires.open l c.solution.ensures in
-    let e : c.in_ok-solution.solution ≡ Assignment = search rules in
-    room_fits (length a.given.now) a.answer.now a.out.now s (c.in_ok-solution.was ∙ ap Ok e) ∙ sym l
 
 pub returns-then-eq : goal.returns-then-eq
 returns-then-eq c =
