@@ -4,7 +4,6 @@
 
 ghost use Rattle.std.specs.Prelude.{length, ◌≤◌, IfSome};
 
-use job_values::Values;
 use std::env::{Env, FillError};
 use std::fs::Files;
 use std::{fs, io};
@@ -29,16 +28,21 @@ fn read_job<R: Env + Files>(rt: &R, buf: &mut [u8]) -> Option<usize>
     streams::read_from(&mut file, buf).ok()
 }
 
-// Prints the values that standard input gives to the job file in the first n bytes of `file`.
-fn print_values<R: io::Input + Print + Eprint>(rt: &R, file: &[u8], n: usize, answer: &mut [u8])
-    requires { (8193 ≤ length file.now) × (n ≤ length file.now) × (1048577 ≤ length answer.old) }
+// Prints the values that standard input gives to the job file. `file` and `answer` have room for one byte more than each may have, so that one
+// too long is seen.
+fn run<R: Env + Files + io::Input + Print + Eprint>(rt: &R, file: &mut [u8], answer: &mut [u8])
+    requires { (8193 ≤ length file.old) × (1048577 ≤ length answer.old) }
 {
     let mut out = [0u8; 1440];
+    let Some(n) = read_job(rt, file) else {
+        let _ = rt.eprintln("cannot read the job file");
+        return;
+    };
     let Ok(m) = streams::read_input(rt, answer) else {
         streams::cannot_read(rt);
         return;
     };
-    let Values::Text(size) = job_values::print_values(file, n, answer, m, &mut out) else {
+    let Ok(size) = job_values::print_values(&file[..n], &answer[..m], &mut out) else {
         let _ = rt.eprintln("the answer is longer than 1048576 bytes");
         return;
     };
@@ -48,13 +52,12 @@ fn print_values<R: io::Input + Print + Eprint>(rt: &R, file: &[u8], n: usize, an
 }
 
 // The array's type says how long it is, so that the check does not count its entries.
-fn run<R: Env + Files + io::Input + Print + Eprint>(rt: &R, answer: &mut [u8; ANSWER]) {
+fn run_in_arrays<R: Env + Files + io::Input + Print + Eprint>(
+    rt: &R,
+    answer: &mut [u8; ANSWER],
+) {
     let mut file = [0u8; 8193];
-    let Some(n) = read_job(rt, &mut file) else {
-        let _ = rt.eprintln("cannot read the job file");
-        return;
-    };
-    print_values(rt, &file, n, answer);
+    run(rt, &mut file, answer);
 }
 
 fn main(rt: HostRuntime) {
@@ -63,5 +66,5 @@ fn main(rt: HostRuntime) {
         return;
     }
     let mut answer = [0u8; ANSWER];
-    run(&rt, &mut answer);
+    run_in_arrays(&rt, &mut answer);
 }

@@ -9,4 +9,4 @@ use Rattle.sat.proofs.Every.{every_replicate}
 use Rattle.columns_check.proofs.lits_from.Goals as goal
 
 pub loop-i-init : goal.loop-i-init
-loop-i-init c = (omega arith, refl, every_replicate (lit 0) (λ (x : Lit). x.0 < 2 ^ 31) 32 (lit< tt))
+loop-i-init c = (refl, every_replicate (lit 0) (λ (x : Lit). x.0 < 2 ^ 31) 32 (lit< tt))

@@ -3,10 +3,10 @@ use native.Mathlib.Omega.{arith}
 use Rattle.columns_check.proofs.Laws.{terms_fit, terms_in_table}
 use Rattle.columns_check.proofs.run_ge.Goals as goal
 
-pub encode_linear_ge_mixed_from_info-used-requires-clause-n_bound : goal.encode_linear_ge_mixed_from_info-used-requires-clause-n_bound
-encode_linear_ge_mixed_from_info-used-requires-clause-n_bound g c =
-    let w = c.read_terms-t in (w.ensures.len, terms_in_table w.result w.ensures (omega arith))
+pub encode_linear_ge_mixed_from_info-requires-clause-n_bound : goal.encode_linear_ge_mixed_from_info-requires-clause-n_bound
+encode_linear_ge_mixed_from_info-requires-clause-n_bound g c =
+    let t = c.in-Some in (t.ensures.len, terms_in_table t.t t.ensures (omega arith))
 
-pub encode_linear_ge_mixed_from_info-used-requires-clause-fits : goal.encode_linear_ge_mixed_from_info-used-requires-clause-fits
-encode_linear_ge_mixed_from_info-used-requires-clause-fits g c =
-    let w = c.read_terms-t in terms_fit w.result _ _ c.nothing.result c.nothing.ensures w.ensures
+pub encode_linear_ge_mixed_from_info-requires-clause-fits : goal.encode_linear_ge_mixed_from_info-requires-clause-fits
+encode_linear_ge_mixed_from_info-requires-clause-fits g c =
+    let t = c.in-Some in terms_fit t.t _ _ c.nothing.result c.nothing.ensures t.ensures

@@ -1,9 +1,6 @@
 -- `columns_check::print::digest_clauses` meets its contract.
-use Prim.Native.Nat.{◌-◌, ◌<◌}
+use Rattle.std.proofs.Common.{◌<◌}
 use Rattle.columns_check.proofs.print.digest_clauses.Given as goal
 
 abbrev pub invariant-loop-k : goal.invariant-loop-k
 invariant-loop-k l = l.sum < 2147483647
-
-abbrev pub decreases-loop-k : goal.decreases-loop-k
-decreases-loop-k l = l.n - l.k
