@@ -11,7 +11,8 @@ ghost use Rattle.log_counts.specs.Rules.{Rule};
 ghost use Rattle.log_counts.specs.declared.TermShape.{TermShape};
 ghost use Rattle.log_counts.specs.Growth.{Counted, Grown};
 
-// The numbers of a term. A ghost field for `ShapesFit` was tried: each term of the specifications then carries a proof, and two loops stay open.
+// The numbers of a term. That they fit stays in the contracts (`ShapesFit`): as a ghost field each term of the specifications would carry a proof,
+// and the goals of the loops over them stayed open.
 #[derive(Clone, Copy)]
 pub struct TermShape {
     pub negative: bool,
