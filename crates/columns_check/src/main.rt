@@ -102,12 +102,7 @@ fn read_terms(nums: &[i64]) -> Option<Terms>
     Some(Terms { terms, len, last })
 }
 
-fn run_ge<R: Print>(
-    rt: &R,
-    nums: &[i64],
-    lits: &mut [u32],
-    ends: &mut [u32],
-) -> io::Result<()> {
+fn run_ge<R: Print>(rt: &R, nums: &[i64], lits: &mut [u32], ends: &mut [u32]) -> io::Result<()> {
     let Some(t) = read_terms(nums) else {
         return rt.write_all(b"bad line\n");
     };
@@ -199,12 +194,7 @@ fn show_bits<R: Print>(rt: &R, s: AdderState) -> io::Result<()> {
     rt.write_all(b" :")
 }
 
-fn run_adder<R: Print>(
-    rt: &R,
-    nums: &[i64],
-    lits: &mut [u32],
-    ends: &mut [u32],
-) -> io::Result<()>
+fn run_adder<R: Print>(rt: &R, nums: &[i64], lits: &mut [u32], ends: &mut [u32]) -> io::Result<()>
     requires { length nums.now ≤ 511 }
 {
     let vars = number(nums, 0);

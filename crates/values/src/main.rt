@@ -52,10 +52,7 @@ fn run<R: Env + Files + io::Input + Print + Eprint>(rt: &R, file: &mut [u8], ans
 }
 
 // The array's type says how long it is, so that the check does not count its entries.
-fn run_in_arrays<R: Env + Files + io::Input + Print + Eprint>(
-    rt: &R,
-    answer: &mut [u8; ANSWER],
-) {
+fn run_in_arrays<R: Env + Files + io::Input + Print + Eprint>(rt: &R, answer: &mut [u8; ANSWER]) {
     let mut file = [0u8; 8193];
     run(rt, &mut file, answer);
 }
