@@ -1,6 +1,6 @@
 // One line of a script: what its word asks for, on the job and the lent stores.
 use super::print;
-use encoder::Figures;
+use encoder::{Figures, Solution};
 use encoder_env::EncoderEnv;
 use lines::{Word, number_at};
 use refusal::Refusal;
@@ -45,7 +45,8 @@ fn clause<R: Print>(
 }
 
 // `solution LEN BYTE..`, which reads a solver's answer, or `answer LEN BYTE..`, which prints an assignment: the call with these bytes and the
-// first LEN of a lent slice, which is printed as the call left it. Each byte lent is 7 before.
+// first LEN of a lent slice, which is printed as the call left it. Each byte lent is 7 before. The value of an assignment read is 1, of a print
+// its length.
 fn lent<R: Print, F: FnOnce(&[u8], &mut [u8]) -> Result<i32, Refusal>>(
     rt: &R,
     nums: &[i64],
@@ -145,12 +146,14 @@ fn kept<R: Print>(
     }
     if lines::is_word(word, b"solution") {
         return Some(lent(rt, nums, env, |text, slice| {
-            script_calls::read_solution(env, lits, ends, text, slice)
+            let solution = encoder::read_answer(env, lits, ends, text, slice)?;
+            Ok(i32::from(solution == Solution::Assignment))
         }));
     }
     if lines::is_word(word, b"answer") {
         return Some(lent(rt, nums, env, |assignment, slice| {
-            script_calls::print_answer(env, lits, ends, assignment, slice)
+            let size = encoder::print_answer(env, lits, ends, assignment, slice)?;
+            Ok(i32::try_from(size).unwrap_or(i32::MAX))
         }));
     }
     if lines::is_word(word, b"size") {

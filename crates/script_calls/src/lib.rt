@@ -6,7 +6,7 @@ mod answers;
 mod figures;
 mod rules;
 
-pub use answers::{Given, given_of, print_answer, read_solution};
+pub use answers::{Given, given_of};
 use encoder::{encode_linear, encode_mul};
 use encoder_env::EncoderEnv;
 pub use figures::{size, size_mul};
