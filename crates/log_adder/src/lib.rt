@@ -109,6 +109,13 @@ pub fn push_column(lits: &mut [u32], ends: &mut [u32], c: ColumnInfo, base: u32)
     set.used
 }
 
+// The columns of an adder: each one's own literals, of which the first twelve are stored, and how many they are.
+#[derive(Clone, Copy)]
+pub struct Columns {
+    pub lits: [[Lit; 12]; 32],
+    pub counts: [u32; 32],
+}
+
 // What a column has of its own: literals and how many, the constant bit, and its result, if one is given.
 #[derive(Clone, Copy)]
 pub struct ColumnInput {
