@@ -3,7 +3,7 @@
 // The thresholds of the terms go into one table (specs/Filling), by which the clauses are told.
 #![tactic(auto)]
 
-ghost use Rattle.std.specs.Prelude.{◌≡◌, map, ◌+◌, ◌*◌, ◌^◌, ◌≤◌, ◌<◌, length};
+ghost use Rattle.std.specs.Prelude.{◌≡◌, map, ◌+◌, ◌*◌, ◌^◌, ◌≤◌, ◌<◌, length, take};
 ghost use Rattle.clause_set.specs.Stores.{Added, Fits};
 ghost use Rattle.log_encoding.specs.Enumerate.{bounded};
 ghost use Rattle.mixed.specs.Infos.{AllSmall, InTable, Small, equated, info_lit, info_term, negated_info};
@@ -17,7 +17,7 @@ use std::ops::Neg;
 
 // A term of an inequality: `count` thresholds, the first with the literal `first`, the others with those of the variables after it.
 // Each is worth `weight`. Where the coefficient is negative (`falling`), they are the negations, from the last variable down.
-#[derive(Clone, Copy)]
+#[derive(Clone, Copy, Default)]
 pub struct LinearInfo {
     pub weight: u32,
     pub falling: bool,
@@ -130,6 +130,18 @@ impl Neg for LinearInfo {
     }
 }
 
+// The terms of minus their sum.
+fn negate_all(ts: &[LinearInfo]) -> [LinearInfo; 15]
+    requires { AllSmall ts.now × (length ts.now ≤ 15) }
+    ensures { take (length ts.now) result ≡ map negated_info ts.now }
+{
+    let mut out = [LinearInfo::default(); 15];
+    for (i, t) in ts.iter().enumerate() {
+        out[i] = -*t;
+    }
+    out
+}
+
 // The clauses of an equation: both inequalities, the second over the negated terms. `total` is what the terms can lose.
 pub fn encode_linear_eq_mixed_from_info(
     set: &mut ClauseSet<'_>,
@@ -144,9 +156,6 @@ pub fn encode_linear_eq_mixed_from_info(
     ensures { Added set.old (equated ts.now above below total) set.new }
 {
     encode_linear_ge_mixed_from_info(set, ts, above, below);
-    let mut down = [LinearInfo::default(); 15];
-    for (i, t) in ts.iter().enumerate() {
-        down[i] = -*t;
-    }
+    let down = negate_all(ts);
     encode_linear_ge_mixed_from_info(set, &down[..ts.len()], below + total, above);
 }

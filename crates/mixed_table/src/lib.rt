@@ -5,7 +5,7 @@
 ghost use Rattle.std.specs.Prelude.{◌≡◌, [], ◌+◌, ◌<◌};
 ghost use Rattle.clause_set.specs.Clause.{clause_lits};
 ghost use Rattle.clause_set.specs.Stores.{Added, Fits};
-ghost use Rattle.mixed_table.specs.Table.{SoundTable, walk};
+ghost use Rattle.mixed_table.specs.Table.{SoundTable, empty_table, walk};
 
 use clause_set::{Clause, ClauseSet};
 use sat::Lit;
@@ -22,11 +22,24 @@ pub struct Row {
 
 // By how many thresholds are left before the last term: the first of them, row 0 for the last term alone; the last term's literals by the
 // slack; how many thresholds are left where so many terms are.
-#[derive(Clone, Copy, Default)]
+#[derive(Clone, Copy)]
 pub struct Table {
     pub rows: [Row; 24],
     pub ends: [Lit; 24],
     pub tops: [usize; 24],
+}
+
+impl Table {
+    // Of no term.
+    pub fn empty() -> Table
+        ensures { result ≡ empty_table }
+    {
+        Table {
+            rows: [Row::default(); 24],
+            ends: [Lit(0); 24],
+            tops: [0; 24],
+        }
+    }
 }
 
 // The clauses of the `left` terms before the last, and of the last term, after the literals of the clause begun: going down through the
