@@ -123,7 +123,7 @@ module _ (c : ℕ) (f t : ℤ) (s : ClauseSet) (ready : Ready (binary c f t) s) 
 
 -- A list -------------------------------------------------------------------------------------------------------------
 
-last_at : (k : ℤ) (ks : List ℤ) → get_or (k ∷ ks) (length (k ∷ ks) - 1) (pos 0) ≡ last_from k ks
+pub last_at : (k : ℤ) (ks : List ℤ) → get_or (k ∷ ks) (length (k ∷ ks) - 1) (pos 0) ≡ last_from k ks
 last_at k ks = let e : length (k ∷ ks) - 1 ≡ length ks = omega arith in ap (λ i. get_or (k ∷ ks) i (pos 0)) e ∙ go k ks
   where
     go : (k : ℤ) (ks : List ℤ) → get_or (k ∷ ks) (length ks) (pos 0) ≡ last_from k ks
