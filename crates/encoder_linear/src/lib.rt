@@ -7,9 +7,11 @@ ghost use Rattle.encoder_answer.specs.Call.{rule};
 ghost use Rattle.encoder_answer.specs.Outcome.{Answers, adds, status_of};
 ghost use Rattle.encoder_linear.specs.Sums.{argument_checks, coef_fits, coefs_fit, constant_fits, linear_checks, linear_outcome, setting_known, settings_known, settings_rise, sum_encoded, terms_paired};
 
-use encoder_answer::{AddingCall, Written, add, counts_of};
+use clause_set::ClauseSet;
+use encoder_answer::{AddingCall, add};
 use encoder_env::{EncoderEnv, well_formed};
 use log_turned::{encode_turned, turned_height};
+use log_var::LogEncoding;
 use refusal::Refusal;
 
 // Whether no setting lacks its coefficient, and there are at most six terms.
@@ -168,8 +170,11 @@ impl AddingCall for Sum<'_> {
         linear_checks(env, lits, ends, self.op, self.constant, self.terms)
     }
 
-    fn write(&self, env: EncoderEnv, lits: &mut [u32], ends: &mut [u32]) -> Written {
-        let at = counts_of(env);
+    fn write(&self, env: EncoderEnv, set: &mut ClauseSet<'_>) -> Option<LogEncoding> {
+        let vars = set.vars;
+        let at = set.used;
+        let lits = &mut *set.lits;
+        let ends = &mut *set.ends;
         let new = encode_turned(
             lits,
             ends,
@@ -177,10 +182,12 @@ impl AddingCall for Sum<'_> {
             self.op,
             self.constant,
             self.terms,
-            env.variables,
+            vars,
             at,
         );
-        Written::from(new)
+        set.vars = new.vars;
+        set.used = new.used;
+        None
     }
 }
 
