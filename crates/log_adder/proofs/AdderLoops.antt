@@ -24,7 +24,7 @@ use Rattle.log_adder.specs.ColumnInfo.{AllLow, range_lits}
 use Rattle.log_adder.specs.AdderState.{AdderAdded, AdderFits, ColumnAdded, ColumnReady, InBounds, adder_output, carry_count, input_columns, result_lit}
 use Rattle.log_adder.proofs.ColumnsLeft.{AdderLeft, adder_as, adder_bits, adder_end, adder_step, adder_then, adder_turn, adder_wrote, extend_end, extend_step, given_at, given_tail}
 
-take_low : (n : ℕ) (ls : List Lit) → AllLow ls → AllLow (take n ls)
+pub take_low : (n : ℕ) (ls : List Lit) → AllLow ls → AllLow (take n ls)
 take_low zero ls h k = omega arith
 take_low (suc n) [] h k = h k
 take_low (suc n) (l ∷ ls) h zero = h zero

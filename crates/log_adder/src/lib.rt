@@ -114,6 +114,14 @@ impl Columns {
     {
         first_of(&self.lits[i], self.counts[i])
     }
+
+    // How many literals the first columns have.
+    pub fn first_counts(&self, width: usize) -> &[u32]
+        requires { width ≤ 32 }
+        ensures { (result.now ≡ take width self.now.counts) × (length result.now ≡ width) }
+    {
+        &self.counts[..width]
+    }
 }
 
 // Between two columns: the literals of the bits so far, and the carry.
