@@ -26,7 +26,7 @@ module _ (counts : List ℕ) where
       ap (λ (j : ℕ). take w (drop j counts)) (sym (add-one i)) ∙ counts_from_drop w (i + 1) (omega arith) in
       rw (drop-cons counts i 0 k, r)
 
-  counts_from_take : (w : ℕ) → w ≤ length counts → take w counts ≡ counts_from w 0
+  pub counts_from_take : (w : ℕ) → w ≤ length counts → take w counts ≡ counts_from w 0
   counts_from_take w h = counts_from_drop w 0 (omega arith)
 
   counts_all : counts ≡ counts_from (length counts) 0
