@@ -3,7 +3,7 @@ use mathlib.Core.List.{List}
 use mathlib.Core.Path.{◌∙◌, ap}
 use Prim.Native.Nat.{ℕ}
 use native.Mathlib.Omega.{arith}
-use Rattle.log_adder.proofs.Taken.{low_taken, shapes_taken}
+use Rattle.log_adder.proofs.Taken.{shapes_taken}
 use Rattle.log_encoding.specs.AdderSize.{ColumnShape, greatest_height, reached}
 use Rattle.log_counts.proofs.Reached.{constant_reached}
 use Rattle.terms_size.specs.Measured.{reached_by}
@@ -20,5 +20,5 @@ returns c =
       reach = reach;
       narrow = w.ensures.1;
       long = h.long;
-      height_is = c.greatest_height.ensures ∙ ap (λ (hs : List ℕ). greatest_height (reached_by hs c.args.constant)) c.columns.ensures ∙ ap greatest_height reach;
+      height_is = c.greatest_height-height.ensures ∙ ap (λ (hs : List ℕ). greatest_height (reached_by hs c.args.constant)) c.columns.ensures ∙ ap greatest_height reach;
     }
