@@ -2,17 +2,17 @@
 #![tactic(auto)]
 
 ghost use Rattle.std.specs.Prelude.{◌≡◌, ◌+◌, ◌≤◌};
-ghost use Rattle.column_bench.specs.BenchColumn.{bench_column, written};
+ghost use Rattle.column_bench.specs.BenchColumn.{bench_own, written};
 
+use clause_set::{ClauseSet, Counts};
 use log_adder::{ColumnInfo, VarRange};
 use sat::{Lit, Var};
 
-// The column of the benchmark with that many own literals and carries.
-fn column(height: u32, carries: u32, bit: u32) -> ColumnInfo
-    requires { (height + carries ≤ 12) × (bit ≤ 1) }
-    ensures { result ≡ bench_column height carries bit }
+// Twelve own literals.
+fn own_lits() -> [Lit; 12]
+    ensures { result ≡ bench_own }
 {
-    let own = [
+    [
         Lit(0),
         Lit(2),
         Lit(4),
@@ -25,24 +25,10 @@ fn column(height: u32, carries: u32, bit: u32) -> ColumnInfo
         Lit(18),
         Lit(20),
         Lit(22),
-    ];
-    ColumnInfo {
-        own,
-        height,
-        carry: VarRange {
-            first: Var(100),
-            count: carries,
-        },
-        bit,
-        next: VarRange {
-            first: Var(200),
-            count: (bit + height + carries) / 2,
-        },
-        result: Lit(600),
-    }
+    ]
 }
 
-// Writes its clauses from the front of the two stores, and answers how many they are.
+// Writes the clauses of the column with that many own literals and carries from the front of the two stores, and answers how many they are.
 #[unsafe(no_mangle)]
 pub extern "C" fn write_column(
     lits: &mut [u32],
@@ -54,7 +40,30 @@ pub extern "C" fn write_column(
     requires { (height + carries ≤ 12) × (bit ≤ 1) }
     ensures { (lits.new ≡ (written height carries bit lits.old ends.old).lits) × (ends.new ≡ (written height carries bit lits.old ends.old).ends) × (result ≡ (written height carries bit lits.old ends.old).count) }
 {
-    let c = column(height, carries, bit);
-    let used = log_adder::push_column(lits, ends, c, 0);
-    used.clauses
+    let mut set = ClauseSet {
+        lits,
+        ends,
+        base: 0,
+        vars: 0,
+        used: Counts {
+            clauses: 0,
+            lits: 0,
+        },
+    };
+    let own = own_lits();
+    let c = ColumnInfo {
+        own: &own[..height as usize],
+        carry: VarRange {
+            first: Var(100),
+            count: carries,
+        },
+        bit,
+        next: VarRange {
+            first: Var(200),
+            count: (bit + height + carries) / 2,
+        },
+        result: Lit(600),
+    };
+    log_adder::push_column(&mut set, c);
+    set.used.clauses
 }

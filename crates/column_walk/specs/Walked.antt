@@ -1,5 +1,6 @@
 -- The counts of a column, as the code walks it.
-use Rattle.std.specs.Prelude.{◌+◌, ◌≤◌, ℕ, replicate, ◌≡◌}
+use Rattle.std.specs.Prelude.{◌+◌, ◌≤◌, ℕ, List, ◌≡◌}
+use Rattle.sat.specs.declared.Lit.{Lit}
 use Rattle.sat.specs.LitArray.{lit}
 use Rattle.clause_set.specs.declared.Counts.{Counts}
 use Rattle.log_adder.specs.declared.ColumnInfo.{ColumnInfo}
@@ -15,14 +16,10 @@ pub record Walked (count : (ℕ → ℕ) → ℕ) (r : Counts) : Type 0 where
 abbrev pub plus : Counts → Counts → Counts
 plus a b = record { clauses = a.clauses + b.clauses; lits = a.lits + b.lits }
 
--- a column of so many own literals, carries and new carries
-abbrev pub any_column : ℕ → ℕ → ℕ → ℕ → ColumnInfo
-any_column own carries bit next =
-    record {
-      own = replicate 12 (lit 0);
-      height = own;
-      carry = record { first = record { 0 = 0 }; count = carries };
-      bit = bit;
-      next = record { first = record { 0 = 0 }; count = next };
-      result = lit 0;
-    }
+-- a column of these own literals, and so many carries and new carries
+pub record AnyColumn (own : List Lit) (carries bit next : ℕ) (c : ColumnInfo) : Type 0 where
+  pub own_are : c.own.now ≡ own
+  pub carry_is : c.carry ≡ record { first = record { 0 = 0 }; count = carries }
+  pub bit_is : c.bit ≡ bit
+  pub next_is : c.next ≡ record { first = record { 0 = 0 }; count = next }
+  pub result_is : c.result ≡ lit 0

@@ -9,7 +9,7 @@ use borrow.Author.Tests.{le-leb, leb-false, leb-true, lt-leb}
 use native.Mathlib.Numerals.{add-one}
 use lib.Dec.{leb}
 use lib.Seq.{take-suc, take-suc-set}
-use lib.ListN.{length, take, get_or, set, length-set, length-map, length-take}
+use lib.ListN.{length, take, get_or, set, length-set, length-map}
 use Rattle.sat.specs.declared.Lit.{Lit}
 use Rattle.mixed.specs.declared.LinearInfo.{LinearInfo}
 use Rattle.log_adder.specs.declared.VarRange.{VarRange}
@@ -75,7 +75,7 @@ lit_terms_negated (l ∷ ls) ts = rw (lit_term_negated l, lit_terms_negated ls t
 
 module _ (c : ColumnInfo) where
   abbrev own· : List Lit
-  own· = take c.height c.own
+  own· = c.own.now
 
   eq_ge_terms_are : map info_term (eq_infos c) ≡ eq_ge_terms (own_lits c) (range_lits c.carry) (range_lits c.next)
   eq_ge_terms_are = lit_terms own· _ ∙ rw (range_term 1 c.carry, range_term_flipped 2 c.next)
@@ -119,11 +119,11 @@ bounded_shift ts a b k = ap₂ (λ (t : Bool) (s : ℕ). cond t (enumerate ts s 
 
 -- document 01's height
 abbrev pub column_height : ColumnInfo → ℕ
-column_height c = c.height + c.carry.count
+column_height c = length c.own.now + c.carry.count
 
-module _ (c : ColumnInfo) (z : ColumnSized c) (long : length c.own ≡ 12) where
-  own_length : length (own_lits c) ≡ c.height
-  own_length = rw (length-map, length-take) (omega (arith, z))
+module _ (c : ColumnInfo) (z : ColumnSized c) where
+  own_length : length (own_lits c) ≡ length c.own.now
+  own_length = rw length-map
 
   -- what the terms can lose, without the result's
   abbrev lost : ℕ
@@ -132,23 +132,22 @@ module _ (c : ColumnInfo) (z : ColumnSized c) (long : length c.own ≡ 12) where
   pub eq_column_equated : (x y : ℕ) → eq_column (own_lits c) (range_lits c.carry) x (range_lits c.next) y ≡ equated (eq_infos c) (x + column_height c) y lost
   unfolding eq_column
   eq_column_equated x y =
-      let above : x + c.height + c.carry.count ≡ x + column_height c = omega arith in
+      let above : x + length c.own.now + c.carry.count ≡ x + column_height c = omega arith in
       let more : y + lost ≡ y + 2 * c.next.count + column_height c = omega arith in
       rw (own_length, length_fresh c.carry.count c.carry.first.0, length_fresh c.next.count c.next.first.0, eq_ge_terms_are c, eq_le_terms_are c, above, more, bounded_shift _ (y + 2 * c.next.count) x (column_height c))
 
   pub column_equated : column_clauses c ≡ equated (column_infos c) (c.bit + column_height c) 0 (lost + 1)
   unfolding column bounded
   column_equated =
-      let above : c.bit + c.height + c.carry.count ≡ c.bit + column_height c = omega arith in
+      let above : c.bit + length c.own.now + c.carry.count ≡ c.bit + column_height c = omega arith in
       let slack : 2 * c.next.count + 1 - c.bit ≡ 0 + (lost + 1) - (c.bit + column_height c) = omega arith in
       let fits : c.bit + column_height c ≤ 0 + (lost + 1) = omega (arith, z) in
       rw (own_length, length_fresh c.carry.count c.carry.first.0, length_fresh c.next.count c.next.first.0, ge_terms_are c, le_terms_are c, above, slack, le-leb 0 (c.bit + column_height c) (omega arith), le-leb (c.bit + column_height c) (0 + (lost + 1)) fits, sub-zero)
 
   -- own literals before other terms fit into a table
-  own_in_table : (u : LinearInfo) (us : List LinearInfo) → thresholds_before (u ∷ us) + c.height < 24 → last_loss (u ∷ us) ≤ 24
-      → loss (u ∷ us) + c.height < 2 ^ 32 → InTable (map (lit_info false) (own· c) ++ (u ∷ us))
+  own_in_table : (u : LinearInfo) (us : List LinearInfo) → thresholds_before (u ∷ us) + length c.own.now < 24 → last_loss (u ∷ us) ≤ 24
+      → loss (u ∷ us) + length c.own.now < 2 ^ 32 → InTable (map (lit_info false) (own· c) ++ (u ∷ us))
   own_in_table u us f l a =
-      let n : length (own· c) ≡ c.height = rw length-take (omega (arith, z)) in
       let r = own_more (own· c) u us in
       record {
         few = omega (arith, r.0, f);

@@ -1,62 +1,118 @@
--- The adder's definition, as the code comes by it: a column, a carry past the columns, the end.
+-- The adder's definition, as the code comes by it: a column, a carry past the columns, the end; what is still to come.
 use mathlib.Core.Path.{◌≡◌, refl, ap, sym, ◌∙◌}
-use mathlib.Core.Bool.{Bool, true, false, cond}
 use mathlib.Core.List.{List, [], ◌∷◌, ◌++◌, map, append_assoc, append-nil}
-use Prim.Native.Nat.{ℕ, zero, suc, ◌+◌, ◌-◌, ◌*◌, ◌/◌, ◌%◌, ◌≤◌, ◌<◌}
+use Prim.Native.Nat.{ℕ, zero, suc, ◌+◌, ◌-◌, ◌/◌, ◌%◌, ◌≤◌, ◌<◌}
 use native.Mathlib.Nat.{not-suc-le-zero}
-use native.Mathlib.Numerals.{add-one, sub-one}
-use native.Mathlib.Omega.{arith}
-use borrow.Author.Tests.{ltb-true, ltb-false}
-use lib.Dec.{ltb}
-use lib.ListN.{length, take, drop, get_or, length-map, length-take, drop_of_length-le}
-use lib.Seq.{drop-cons, get_or-take}
+use native.Mathlib.Numerals.{sub-one}
+use lib.ListN.{take, drop, get_or, length-map}
+use Rattle.std.specs.Prelude.{Option}
+use Rattle.std.specs.List.{slice_get}
 use Rattle.sat.specs.declared.Lit.{Lit}
-use Rattle.log_adder.specs.declared.VarRange.{VarRange}
-use Rattle.log_adder.specs.declared.ColumnInput.{ColumnInput}
-use Rattle.log_adder.specs.declared.AdderState.{AdderState}
-use Rattle.clause_set.specs.Stores.{Stores, add_clauses, after}
+use Rattle.sat.specs.Encoded.{EncodedBits}
+use Rattle.sat.specs.Fresh.{fresh}
+use Rattle.sat.specs.LitArray.{num}
+use Rattle.sat.proofs.Fresh.{length_fresh}
+use Rattle.clause_set.specs.declared.ClauseSet.{ClauseSet}
+use Rattle.clause_set.specs.Stores.{Stores, Wrote, add_clauses, stores_of}
 use Rattle.clause_set.proofs.Adding.{add_append}
 use Rattle.log_encoding.specs.Column.{column}
 use Rattle.log_encoding.specs.Adder.{AdderColumn, add_column, adder, carry_size, empty_column, extend, joined, no_more_columns, result, result_vars, tail}
-use Rattle.sat.specs.Encoded.{EncodedBits}
-use Rattle.sat.specs.Fresh.{fresh}
-use Rattle.log_adder.specs.ColumnInfo.{column_clauses, range_lits}
-use Rattle.sat.specs.LitArray.{lit, num}
-use Rattle.log_adder.specs.AdderState.{ColumnAdded, carry_count, column_info, input_columns, result_count, result_lit, state_bits, then}
-use Rattle.sat.proofs.Fresh.{length_fresh}
+use Rattle.log_linear.specs.Added.{bits_of}
+use Rattle.log_adder.specs.declared.VarRange.{VarRange}
+use Rattle.log_adder.specs.declared.AdderState.{AdderState}
+use Rattle.log_adder.specs.ColumnInfo.{range_lits}
+use Rattle.log_adder.specs.AdderState.{ColumnAdded, carry_count, input_columns, result_count, result_lit}
 
-abbrev pub adder_column : ColumnInput → AdderColumn
-adder_column c = record { own = map num (take c.height c.own); constant = c.bit }
+-- What is still to come ---------------------------------------------------------------------------------------------
+
+-- stores, bits and variables
+record Outcome : Type 0 where
+  stores : Stores
+  bits : List ℕ
+  vars : ℕ
+
+-- those of a set of clauses and of the bits so far, with what is still to come
+abbrev then : ClauseSet → List ℕ → EncodedBits → Outcome
+then t bs rest = record { stores = add_clauses t.base rest.clauses (stores_of t); bits = bs ++ rest.bits; vars = rest.vars }
+
+-- To go on from here comes to what the whole would have given from the start.
+pub record AdderLeft (t₀ : ClauseSet) (b₀ : List ℕ) (all : EncodedBits) (t : ClauseSet) (b : List ℕ) (rest : EncodedBits) : Type 0 where
+  pub same_lits : t.lits.ghost_name ≡ t₀.lits.ghost_name
+  pub same_ends : t.ends.ghost_name ≡ t₀.ends.ghost_name
+  pub same_base : t.base ≡ t₀.base
+  pub same : then t b rest ≡ then t₀ b₀ all
+
+module _ {t₀ : ClauseSet} {b₀ : List ℕ} {all : EncodedBits} {t : ClauseSet} {b : List ℕ} {rest : EncodedBits} (left : AdderLeft t₀ b₀ all t b rest) where
+  -- the same, written otherwise
+  pub adder_as : {more : EncodedBits} → rest ≡ more → AdderLeft t₀ b₀ all t b more
+  adder_as e =
+      record { same_lits = left.same_lits; same_ends = left.same_ends; same_base = left.same_base; same = ap (then t b) (sym e) ∙ left.same }
+
+  -- two loops one after the other
+  pub adder_then : {u : ClauseSet} {c : List ℕ} {more : EncodedBits} → AdderLeft t b rest u c more → AdderLeft t₀ b₀ all u c more
+  adder_then next =
+      record {
+        same_lits = next.same_lits ∙ left.same_lits;
+        same_ends = next.same_ends ∙ left.same_ends;
+        same_base = next.same_base ∙ left.same_base;
+        same = next.same ∙ left.same;
+      }
+
+-- nothing is left
+module _ {t₀ : ClauseSet} {all : EncodedBits} {t : ClauseSet} {b : List ℕ} (left : AdderLeft t₀ [] all t b (no_more_columns t.vars)) where
+  pub adder_wrote : Wrote t₀ all.vars all.clauses t
+  adder_wrote =
+      record {
+        same_lits = left.same_lits;
+        same_ends = left.same_ends;
+        same_base = left.same_base;
+        vars_are = ap (λ (o : Outcome). o.vars) left.same;
+        stores_are = ap (λ (o : Outcome). o.stores) left.same;
+      }
+
+  pub adder_bits : b ≡ all.bits
+  adder_bits = sym (append-nil b) ∙ ap (λ (o : Outcome). o.bits) left.same
 
 -- A column, then the rest --------------------------------------------------------------------------------------------
 
-then_joined : (s : Stores) (bs : List ℕ) (cs : List (List ℕ)) (r : ℕ) (rest : EncodedBits) → then s bs (joined cs r rest) ≡ then (add_clauses 0 cs s) (bs ++ (r ∷ [])) rest
-then_joined s bs cs r rest =
-    λ i. record { stores = add_append 0 cs rest.clauses s i; bits = sym (append_assoc bs (r ∷ []) rest.bits) i; vars = rest.vars }
+column_then : (t : ClauseSet) (bs : List ℕ) (cs : List (List ℕ)) (r : ℕ) (rest : EncodedBits) {v : ℕ} {u : ClauseSet} → Wrote t v cs u
+    → then u (bs ++ (r ∷ [])) rest ≡ then t bs (joined cs r rest)
+column_then t bs cs r rest {u = u} w =
+    λ i. record {
+      stores = (ap (λ b. add_clauses b rest.clauses (stores_of u)) w.same_base ∙ ap (add_clauses t.base rest.clauses) w.stores_are
+          ∙ sym (add_append t.base cs rest.clauses (stores_of t))) i;
+      bits = append_assoc bs (r ∷ []) rest.bits i;
+      vars = rest.vars;
+    }
 
-module _ {d e : List ℕ} {c : ColumnInput} {s : AdderState} {d' e' : List ℕ} {r : AdderState} (t : ColumnAdded d e c s d' e' r) (high : c.height ≤ 12) where
-  pub add_column_then : (rs : List ℕ)
-      → result rs (s.vars + carry_count c s) ≡ (result_lit c (s.vars + carry_count c s)).0
-      → result_vars rs (s.vars + carry_count c s) ≡ result_count c.given (s.vars + carry_count c s)
+module _ {own : List Lit} {bit : ℕ} {given : Option Lit} {t : ClauseSet} {s : AdderState} {u : ClauseSet} {r : AdderState} (a : ColumnAdded own bit given t s u r) where
+  abbrev col : AdderColumn
+  col = record { own = map num own; constant = bit }
+
+  abbrev v : ℕ
+  v = t.vars + carry_count own bit given s
+
+  pub adder_turn : {t₀ : ClauseSet} {b₀ : List ℕ} {all : EncodedBits} (rs : List ℕ) → result rs v ≡ (result_lit given v).0 → result_vars rs v ≡ result_count given v
       → (more : List ℕ → ℕ → EncodedBits)
-      → then (after d e s.used) (state_bits s) (add_column (adder_column c) (range_lits s.carry) (carry_size (adder_column c) (range_lits s.carry)) rs s.vars more)
-      ≡ then (after d' e' r.used) (state_bits r) (more (range_lits r.carry) r.vars)
-  add_column_then rs p q more =
-      let col : AdderColumn = adder_column c in
+      → AdderLeft t₀ b₀ all t (bits_of s.bits) (add_column col (range_lits s.carry) (carry_size col (range_lits s.carry)) rs t.vars more)
+      → AdderLeft t₀ b₀ all u (bits_of r.bits) (more (range_lits r.carry) u.vars)
+  adder_turn rs p q more left =
       let carry : List ℕ = range_lits s.carry in
-      let v : ℕ = s.vars in
-      let n : ℕ = carry_count c s in
-      let S : Stores = after d e s.used in
-      let bs : List ℕ = state_bits s in
-      let R : ℕ = (result_lit c (v + n)).0 in
-      let own = t.wide in
-      let h : length col.own ≡ c.height = rw (length-map, length-take) (omega arith) in
-      let size : carry_size col carry ≡ n = rw (h, length_fresh s.carry.count s.carry.first.0) in
-      ap (λ (m : ℕ). then S bs (add_column col carry m rs v more)) size
-      ∙ ap (λ (x : ℕ). then S bs (joined (column col.own carry col.constant (fresh n v) x) x (more (fresh n v) (result_vars rs (v + n))))) p
-      ∙ ap (λ (x : ℕ). then S bs (joined (column col.own carry col.constant (fresh n v) R) R (more (fresh n v) x))) q
-      ∙ then_joined S bs (column_clauses (column_info c s)) R (more (fresh n v) (result_count c.given (v + n)))
-      ∙ (λ i. then (sym t.stores i) (sym t.bits i) (more (range_lits (sym t.carry i)) (sym t.vars i)))
+      let n : ℕ = carry_count own bit given s in
+      let size : carry_size col carry ≡ n = rw (length-map own num, length_fresh s.carry.count s.carry.first.0) in
+      let bs = bits_of s.bits in
+      let cs = column col.own carry bit (fresh n t.vars) in
+      let w = a.wrote in
+      record {
+        same_lits = w.same_lits ∙ left.same_lits;
+        same_ends = w.same_ends ∙ left.same_ends;
+        same_base = w.same_base ∙ left.same_base;
+        same = (λ i. then u (a.bits i) (more (range_lits (a.carry i)) (w.vars_are i)))
+            ∙ column_then t bs (cs (result_lit given v).0) (result_lit given v).0 (more (fresh n t.vars) (result_count given v)) w
+            ∙ (λ i. then t bs (joined (cs (sym p i)) (sym p i) (more (fresh n t.vars) (sym q i))))
+            ∙ (λ i. then t bs (add_column col carry (sym size i) rs t.vars more))
+            ∙ left.same;
+      }
 
 -- The columns --------------------------------------------------------------------------------------------------
 
@@ -74,46 +130,19 @@ module _ (cols : List (List Lit)) (counts : List ℕ) where
 
 -- The results that are given -----------------------------------------------------------------------------------------
 
-num_at : (ls : List Lit) (i : ℕ) → get_or (map num ls) i 0 ≡ (get_or ls i (lit 0)).0
-num_at [] i = refl
-num_at (l ∷ ls) zero = refl
-num_at (l ∷ ls) (suc i) = num_at ls i
+-- the one at place i, if there is one
+pub given_at : (given : List Lit) (i v : ℕ)
+    → (result (drop i (map num given)) v ≡ (result_lit (slice_get given i) v).0) × (result_vars (drop i (map num given)) v ≡ result_count (slice_get given i) v)
+given_at [] zero v = (refl, refl)
+given_at [] (suc i) v = (refl, refl)
+given_at (l ∷ ls) zero v = (refl, refl)
+given_at (l ∷ ls) (suc i) v = given_at ls i v
 
-module _ (given : List Lit) (g : ℕ) (long : g ≤ length given) where
-  abbrev gs : List ℕ
-  gs = map num (take g given)
-
-  gs_long : length gs ≡ g
-  gs_long = rw (length-map, length-take) (omega arith)
-
-  gs_more : (i : ℕ) → i < g → drop i gs ≡ (get_or given i (lit 0)).0 ∷ drop (i + 1) gs
-  gs_more i h =
-      let k : i < length gs = omega (arith, gs_long) in
-      let e : get_or gs i 0 ≡ (get_or given i (lit 0)).0 = num_at (take g given) i ∙ ap num (get_or-take g given i (lit 0) h) in
-      rw (add-one i, drop-cons gs i 0 k, e)
-
-  gs_none : (i : ℕ) → g ≤ i → drop i gs ≡ []
-  gs_none i h = let k : length gs ≤ i = omega (arith, gs_long) in drop_of_length-le gs k
-
-  pub given_result : (i v : ℕ) → result (drop i gs) v ≡ (cond (ltb i g) (get_or given i (lit 0)) (lit (2 * v))).0
-  given_result i v = go (ltb i g) refl where
-    go : (t : Bool) → ltb i g ≡ t → result (drop i gs) v ≡ (cond (ltb i g) (get_or given i (lit 0)) (lit (2 * v))).0
-    go true e = rw (e, gs_more i (ltb-true i g e))
-    go false e = rw (e, gs_none i (ltb-false i g e))
-
-  pub given_vars : (i v : ℕ) → result_vars (drop i gs) v ≡ result_count (ltb i g) v
-  given_vars i v = go (ltb i g) refl where
-    go : (t : Bool) → ltb i g ≡ t → result_vars (drop i gs) v ≡ result_count (ltb i g) v
-    go true e = rw (e, gs_more i (ltb-true i g e))
-    go false e = rw (e, gs_none i (ltb-false i g e)) (sym (add-one v))
-
-  pub given_tail : (i : ℕ) → tail (drop i gs) ≡ drop (i + 1) gs
-  given_tail i = go (ltb i g) refl where
-    go : (t : Bool) → ltb i g ≡ t → tail (drop i gs) ≡ drop (i + 1) gs
-    go true e = rw (gs_more i (ltb-true i g e))
-    go false e =
-        let k : g ≤ i + 1 = omega (arith, ltb-false i g e) in
-        rw (gs_none i (ltb-false i g e), gs_none (i + 1) k)
+pub given_tail : (given : List ℕ) (i : ℕ) → tail (drop i given) ≡ drop (suc i) given
+given_tail [] zero = refl
+given_tail [] (suc i) = refl
+given_tail (l ∷ ls) zero = refl
+given_tail (l ∷ ls) (suc i) = given_tail ls i
 
 -- Past the columns ---------------------------------------------------------------------------------------------
 
@@ -132,6 +161,3 @@ extend_end f p v h = go f p.count h where
   go zero n h = refl
   go (suc f) zero h = refl
   go (suc f) (suc n) h = absurd (not-suc-le-zero h)
-
-pub then_no_more : (s : Stores) (bs : List ℕ) (v : ℕ) → record { stores = s; bits = bs; vars = v } ≡ then s bs (no_more_columns v)
-then_no_more s bs v = λ i. record { stores = s; bits = sym (append-nil bs) i; vars = v }

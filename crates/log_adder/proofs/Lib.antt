@@ -3,3 +3,4 @@ pub mod ColumnTerms
 pub mod OneColumn
 pub mod ColumnsLeft
 pub mod AdderLoops
+pub mod Taken

@@ -1,6 +1,6 @@
 -- A column as the code holds it.
-use Rattle.std.specs.Prelude.{ℕ, ◌+◌, ◌*◌, ◌^◌, ◌≤◌, ◌<◌, Bool, false, true, List, [], ◌∷◌, ◌++◌, map, take, get_or}
-use Rattle.sat.specs.LitArray.{first_lits, lit}
+use Rattle.std.specs.Prelude.{ℕ, ◌+◌, ◌*◌, ◌^◌, ◌≤◌, ◌<◌, Bool, false, true, List, [], ◌∷◌, ◌++◌, map, get_or, length}
+use Rattle.sat.specs.LitArray.{lit, num}
 use Rattle.sat.specs.declared.Lit.{Lit}
 use Rattle.mixed.specs.declared.LinearInfo.{LinearInfo}
 use Rattle.log_adder.specs.declared.VarRange.{VarRange}
@@ -18,7 +18,7 @@ abbrev pub range_lits : VarRange → List ℕ
 range_lits s = fresh s.count s.first.0
 
 abbrev pub own_lits : ColumnInfo → List ℕ
-own_lits c = first_lits c.own c.height
+own_lits c = map num c.own.now
 
 -- the terms of a column as the code holds them
 abbrev pub lit_info : Bool → Lit → LinearInfo
@@ -29,7 +29,7 @@ range_info w s p = record { weight = w; falling = s; first = lit (2 * p.first.0)
 
 -- own + carry - 2 next
 abbrev pub eq_infos : ColumnInfo → List LinearInfo
-eq_infos c = map (lit_info false) (take c.height c.own) ++ (range_info 1 false c.carry ∷ range_info 2 true c.next ∷ [])
+eq_infos c = map (lit_info false) c.own.now ++ (range_info 1 false c.carry ∷ range_info 2 true c.next ∷ [])
 
 -- own + carry - 2 next - result
 abbrev pub column_infos : ColumnInfo → List LinearInfo
@@ -37,13 +37,13 @@ column_infos c = eq_infos c ++ (lit_info true c.result ∷ [])
 
 -- a column within bounds
 pub record ColumnSized (c : ColumnInfo) : Type 0 where
-  pub high : c.height + c.carry.count ≤ 12
+  pub high : length c.own.now + c.carry.count ≤ 12
   pub next : c.next.count ≤ 6
   pub bit : c.bit ≤ 1
   pub first : c.carry.first.0 < 2 ^ 30
   pub second : c.next.first.0 < 2 ^ 30
   pub result : c.result.0 < 2 ^ 31
-  pub own : AllLow c.own
+  pub own : AllLow c.own.now
 
 -- the clauses of a column
 abbrev pub column_clauses : ColumnInfo → Clauses

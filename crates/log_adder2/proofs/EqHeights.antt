@@ -2,7 +2,7 @@
 use Prim.Native.Nat.{◌%◌, ◌+◌, ◌-◌, ◌/◌, ◌<◌, ◌≤◌, max, suc, zero, ℕ}
 use borrow.Author.Tests.{le-leb, le-ltb, lt-leb, ltb-false}
 use lib.ListN.{drop, get_or, length, take}
-use lib.Seq.{drop-cons}
+use lib.Seq.{drop-cons, take_all}
 use mathlib.Core.Bool.{Bool, cond, false}
 use mathlib.Core.List.{List, [], ◌∷◌}
 use mathlib.Core.Path.{◌∙◌, ◌≡◌, ap, refl, sym}
@@ -29,6 +29,9 @@ module _ (counts : List ℕ) where
   pub counts_from_take : (w : ℕ) → w ≤ length counts → take w counts ≡ counts_from w 0
   counts_from_take w h = counts_from_drop w 0 (omega arith)
 
+  counts_all : counts ≡ counts_from (length counts) 0
+  counts_all = sym (take_all (length counts) counts (omega arith)) ∙ counts_from_take (length counts) (omega arith)
+
   -- the greatest height of w columns from the i-th on that are reached, with a carry of c literals and x and y
   abbrev greatest_from : ℕ → ℕ → ℕ → ℕ → ℕ → ℕ
   greatest_from w i x y c = greatest_height (eq_reached (counts_from w i) x y c)
@@ -43,6 +46,9 @@ module _ (counts : List ℕ) where
   all_fit width x y l h f =
       let n : width ≡ suc (width - 1) = omega arith in
       sym (ap (λ (hs : List ℕ). too_tall (eq_reached hs x y 0)) (counts_from_take width h ∙ ap (λ (w : ℕ). counts_from w 0) n)) ∙ f
+
+  pub all_reached : (x y : ℕ) → 1 ≤ length counts → too_tall (eq_reached counts x y 0) ≡ false → tall_from (suc (length counts - 1)) 0 x y 0 ≡ false
+  all_reached x y l f = all_fit (length counts) x y l (omega arith) (ap (λ hs. too_tall (eq_reached hs x y 0)) (take_all (length counts) counts (omega arith)) ∙ f)
 
   greatest_step : (w i x y c : ℕ) → 0 < w → (x + y) % 2 ≤ get_or counts i 0 + c
       → greatest_from w i x y c
@@ -73,26 +79,26 @@ module _ (counts : List ℕ) where
       let rest : ℕ = greatest_from (w - 1) (i + 1) ((x + 1) / 2) (y / 2) ((get_or counts i 0 + c - (x + y) % 2) / 2) in
       le-ltb 12 rest (omega (arith, greatest_step w i x y c z k, ltb-false 12 (greatest_from w i x y c) h))
 
-  module _ (width x₀ y₀ : ℕ) where
+  module _ (x₀ y₀ : ℕ) where
     -- before column i, with the carry into it, what is left of x and y and the greatest height so far: the columns left may be higher
     pub record HeightsLeft (x y c most i : ℕ) : Type 0 where
-      pub within : i ≤ width
+      pub within : i ≤ length counts
       pub few : c < 2147483648
       pub x_low : x < 2147483648
       pub y_low : y < 2147483648
-      pub same : greatest_height (eq_reached (take width counts) x₀ y₀ 0) ≡ max most (greatest_from (width - i) i x y c)
+      pub same : greatest_height (eq_reached counts x₀ y₀ 0) ≡ max most (greatest_from (length counts - i) i x y c)
 
-    pub heights_start : width ≤ length counts → x₀ < 2147483648 → y₀ < 2147483648 → HeightsLeft x₀ y₀ 0 0 0
-    heights_start h p q =
-        let all = ap (λ (hs : List ℕ). greatest_height (eq_reached hs x₀ y₀ 0)) (counts_from_take width h) in
-        record { within = omega arith; few = omega arith; x_low = p; y_low = q; same = rw (sub-zero width) (omega (arith, all)) }
+    pub heights_start : x₀ < 2147483648 → y₀ < 2147483648 → HeightsLeft x₀ y₀ 0 0 0
+    heights_start p q =
+        let all = ap (λ (hs : List ℕ). greatest_height (eq_reached hs x₀ y₀ 0)) counts_all in
+        record { within = omega arith; few = omega arith; x_low = p; y_low = q; same = rw (sub-zero (length counts)) (omega (arith, all)) }
 
-    module _ {x y c most i : ℕ} (left : HeightsLeft x y c most i) (n : ℕ) (e : n ≡ max most (get_or counts i 0 + c)) (h : i < width) where
+    module _ {x y c most i : ℕ} (left : HeightsLeft x y c most i) (n : ℕ) (e : n ≡ max most (get_or counts i 0 + c)) (h : i < length counts) where
       pub heights_turn : get_or counts i 0 < 2147483648 → (x + y) % 2 ≤ get_or counts i 0 + c
           → HeightsLeft ((x + 1) / 2) (y / 2) ((get_or counts i 0 + c - (x + y) % 2) / 2) n (i + 1)
       heights_turn low k =
-          let u : width - i - 1 ≡ width - (i + 1) = omega arith in
-          let step = greatest_step (width - i) i x y c (omega arith) k
+          let u : length counts - i - 1 ≡ length counts - (i + 1) = omega arith in
+          let step = greatest_step (length counts - i) i x y c (omega arith) k
           ∙ (λ j. max (get_or counts i 0 + c) (greatest_from (u j) (i + 1) ((x + 1) / 2) (y / 2) ((get_or counts i 0 + c - (x + y) % 2) / 2))) in
           record {
             within = omega arith;
@@ -102,8 +108,8 @@ module _ (counts : List ℕ) where
             same = omega (arith, left.same, step);
           }
 
-      pub heights_dead : get_or counts i 0 + c < (x + y) % 2 → n ≡ greatest_height (eq_reached (take width counts) x₀ y₀ 0)
-      heights_dead k = omega (arith, left.same, greatest_dead (width - i) i x y c (omega arith) k)
+      pub heights_dead : get_or counts i 0 + c < (x + y) % 2 → n ≡ greatest_height (eq_reached counts x₀ y₀ 0)
+      heights_dead k = omega (arith, left.same, greatest_dead (length counts - i) i x y c (omega arith) k)
 
-    pub heights_end : {x y c most i : ℕ} → HeightsLeft x y c most i → width ≤ i → most ≡ greatest_height (eq_reached (take width counts) x₀ y₀ 0)
-    heights_end {x} {y} {c} {most} {i} left h = omega (arith, left.same, greatest_end (width - i) i x y c (omega arith))
+    pub heights_end : {x y c most i : ℕ} → HeightsLeft x y c most i → length counts ≤ i → most ≡ greatest_height (eq_reached counts x₀ y₀ 0)
+    heights_end {x} {y} {c} {most} {i} left h = omega (arith, left.same, greatest_end (length counts - i) i x y c (omega arith))

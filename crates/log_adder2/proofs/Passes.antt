@@ -1,7 +1,7 @@
 -- The carries column by column; and the two passes together are the definition.
 use mathlib.Core.Path.{◌≡◌, refl}
 use mathlib.Core.Bool.{Bool, true, false, cond}
-use mathlib.Core.List.{List, [], ◌++◌}
+use mathlib.Core.List.{List, [], ◌∷◌, ◌++◌}
 use mathlib.Core.Option.{none, some}
 use Prim.Native.Nat.{ℕ, zero, suc, ◌+◌, ◌-◌, ◌/◌, ◌%◌, ◌≤◌, ◌<◌}
 use native.Mathlib.Nat.{not-suc-le-zero}
@@ -9,7 +9,9 @@ use native.Mathlib.Numerals.{sub-one}
 use native.Mathlib.Omega.{arith}
 use borrow.Author.Tests.{le-leb, lt-leb, leb-true}
 use lib.Dec.{leb}
-use lib.ListN.{length, get_or, length-map, length-take}
+use lib.ListN.{length, get_or, length-map, length-take, take}
+use lib.Seq.{get_or-take}
+use Rattle.sat.specs.LitArray.{first_lits}
 use Rattle.sat.specs.declared.Lit.{Lit}
 use Rattle.log_adder.specs.declared.VarRange.{VarRange}
 use Rattle.log_adder2.specs.declared.EqInput.{EqInput}
@@ -17,9 +19,9 @@ use Rattle.sat.specs.Clause.{Clauses}
 use Rattle.sat.specs.Fresh.{fresh}
 use Rattle.sat.proofs.Fresh.{length_fresh}
 use Rattle.log_adder.specs.ColumnInfo.{range_lits}
-use Rattle.log_encoding.specs.Adder2.{Adder2Output, NewCarry, ordering, prepend}
+use Rattle.log_encoding.specs.Adder2.{Adder2Output, NewCarry, adder2, column_answer, ordering, prepend}
 use Rattle.log_adder.specs.AdderState.{own_at}
-use Rattle.log_adder2.specs.EqState.{Carries, Wide, carries, carries_from, carries_then, columns_clauses, eq_output, is_dead, no_vars, output_at}
+use Rattle.log_adder2.specs.EqState.{Carries, Wide, carries, carries_from, carries_then, carries_unless_dead, columns_at, columns_clauses, is_dead, last_at, no_vars, output_at, output_of}
 use Rattle.log_adder2.proofs.EqHeights.{column_fits, fits_step, tall_from}
 
 -- consecutive variables as a carry, v variables after them
@@ -87,5 +89,32 @@ module _ (cols : List (List Lit)) (counts : List ℕ) (wide : Wide cols) where
 
   -- all columns
   pub passes_are : (g : EqInput) → g.width ≤ 26 → tall_from counts (suc (g.width - 1)) 0 g.x g.y 0 ≡ false
-      → eq_output cols counts g ≡ output_with (carries counts g) (columns_clauses (g.width - 1) 0 cols counts g.x g.y no_vars g.vars)
+      → output_of cols counts g ≡ output_with (carries counts g) (columns_clauses (g.width - 1) 0 cols counts g.x g.y no_vars g.vars)
   passes_are g w fits = out_passes (g.width - 1) 0 g.x g.y no_vars g.vars (omega arith) fits
+
+-- The counts of the first columns alone --------------------------------------------------------------------------------
+
+module _ (n : ℕ) (counts : List ℕ) where
+  carries_of_first : (w i x y : ℕ) (p : NewCarry) → i + w ≤ n → carries_from w i (take n counts) x y p ≡ carries_from w i counts x y p
+  carries_of_first zero i x y p h = refl
+  carries_of_first (suc w) i x y p h =
+      λ j. carries_unless_dead (column_answer (get_or-take n counts i 0 (omega arith) j + length p.lits) ((x + y) % 2) p.vars) p.vars
+      (λ next. carries_of_first w (i + 1) ((x + 1) / 2) (y / 2) next (omega arith) j)
+
+  columns_of_first : (cols : List (List Lit)) (w i x y : ℕ) → i + w ≤ n → columns_at w i cols (take n counts) x y ≡ columns_at w i cols counts x y
+  columns_of_first cols zero i x y h = refl
+  columns_of_first cols (suc w) i x y h =
+      λ j. record { own = first_lits (get_or cols i []) (get_or-take n counts i 0 (omega arith) j); target = (x + y) % 2 }
+      ∷ columns_of_first cols w (i + 1) ((x + 1) / 2) (y / 2) (omega arith) j
+
+  last_of_first : (cols : List (List Lit)) (w i x y : ℕ) → i + w < n → last_at w i cols (take n counts) x y ≡ last_at w i cols counts x y
+  last_of_first cols zero i x y h = λ j. record { own = first_lits (get_or cols i []) (get_or-take n counts i 0 (omega arith) j); plus = x; target = y }
+  last_of_first cols (suc w) i x y h = last_of_first cols w (i + 1) ((x + 1) / 2) (y / 2) (omega arith)
+
+module _ (counts : List ℕ) (g : EqInput) (h : 1 ≤ g.width) where
+  pub carries_taken : carries (take g.width counts) g ≡ carries counts g
+  carries_taken = carries_of_first g.width counts (g.width - 1) 0 g.x g.y (record { lits = []; vars = g.vars }) (omega arith)
+
+  pub output_taken : (cols : List (List Lit)) → output_of cols (take g.width counts) g ≡ output_of cols counts g
+  output_taken cols =
+      λ j. adder2 (columns_of_first g.width counts cols (g.width - 1) 0 g.x g.y (omega arith) j) (last_of_first g.width counts cols (g.width - 1) 0 g.x g.y (omega arith) j) [] g.vars

@@ -1,22 +1,21 @@
 -- The state of the adder of Eq as the code holds it, and what is still to come.
-use Rattle.std.specs.Prelude.{ℕ, zero, suc, ◌+◌, ◌-◌, ◌*◌, ◌/◌, ◌%◌, ◌^◌, ◌≤◌, ◌<◌, ◌≡◌, Bool, true, false, List, [], ◌∷◌, ◌++◌, get_or, length}
+use Rattle.std.specs.Prelude.{ℕ, zero, suc, ◌+◌, ◌-◌, ◌/◌, ◌%◌, ◌≤◌, ◌<◌, ◌≡◌, Bool, true, false, List, [], ◌∷◌, ◌++◌, get_or, length}
 use Rattle.std.proofs.Math.Option.{Option, none, some}
 use Rattle.sat.specs.declared.Lit.{Lit}
-use Rattle.clause_set.specs.declared.Counts.{Counts}
+use Rattle.clause_set.specs.declared.ClauseSet.{ClauseSet}
 use Rattle.log_adder.specs.declared.VarRange.{VarRange}
 use Rattle.log_adder.specs.declared.ColumnInfo.{ColumnInfo}
+use Rattle.log_adder.specs.declared.Columns.{Columns}
 use Rattle.log_adder2.specs.declared.Column.{Column}
 use Rattle.log_adder2.specs.declared.Column.TheVariants.{Carry, Dead}
 use Rattle.log_adder2.specs.declared.EqInput.{EqInput}
 use Rattle.log_adder2.specs.declared.EqState.{EqState}
-use Rattle.log_adder2.specs.declared.EqCarries.{EqCarries}
-use Rattle.log_adder2.specs.declared.EqCounts.{EqCounts}
 use Rattle.sat.specs.Clause.{Clauses}
-use Rattle.clause_set.specs.Stores.{add_clauses, after}
+use Rattle.clause_set.specs.Stores.{Wrote}
 use Rattle.log_adder.specs.AdderState.{own_at}
 use Rattle.log_adder.specs.ColumnInfo.{AllLow, own_lits, range_lits}
 use Rattle.sat.specs.Fresh.{fresh}
-use Rattle.log_encoding.specs.Adder2.{Adder2Output, EqColumn, LastColumn, NewCarry, adder2, adder2_clauses, column_answer, eq_column, ordering}
+use Rattle.log_encoding.specs.Adder2.{Adder2Output, EqColumn, LastColumn, NewCarry, adder2, column_answer, eq_column, ordering}
 
 -- a column's clauses: x + own + carry = 2 next + y
 abbrev pub eq_column_clauses : ColumnInfo → ℕ → ℕ → Clauses
@@ -48,24 +47,17 @@ abbrev pub Wide : List (List Lit) → Type 0
 Wide cols = (i : ℕ) → i < 32 → length (get_or cols i []) ≡ 12
 
 -- what the columns ask
-pub record EqFits (cols : List (List Lit)) (counts : List ℕ) (g : EqInput) : Type 0 where
+pub record EqFits (cols : Columns) (g : EqInput) : Type 0 where
   pub some : 1 ≤ g.width
   pub width : g.width ≤ 26
   pub x : g.x ≤ 1073741824
   pub y : g.y ≤ 1073741824
   pub vars : g.vars ≤ 1048576
-  pub own : (i : ℕ) → AllLow (get_or cols i [])
-  pub wide : Wide cols
+  pub own : (i : ℕ) → AllLow (get_or cols.lits i [])
+  pub wide : Wide cols.lits
 
--- a state within bounds: i columns passed, at most l literals and n clauses used
-pub record EqInBounds (l n i : ℕ) (s : EqState) : Type 0 where
-  pub x : s.x ≤ 1073741824
-  pub y : s.y ≤ 1073741824
-  pub vars : s.vars ≤ 1048576 + 6 * i
-  pub carry : s.carry.first.0 ≤ s.vars
-  pub few : s.carry.count ≤ 6
-  pub lits : s.used.lits ≤ l
-  pub clauses : s.used.clauses ≤ n
+abbrev pub eq_input : ℕ → ℕ → ℕ → ℕ → EqInput
+eq_input width x y vars = record { width = width; x = x; y = y; vars = vars }
 
 -- The two passes apart -----------------------------------------------------------------------------------------------
 
@@ -112,22 +104,19 @@ no_vars = record { first = record { 0 = 0 }; count = 0 }
 abbrev pub carries : List ℕ → EqInput → Carries
 carries counts g = carries_from (g.width - 1) 0 counts g.x g.y (record { lits = []; vars = g.vars })
 
--- the definition's output for these columns
-abbrev pub eq_output : List (List Lit) → List ℕ → EqInput → Adder2Output
-eq_output cols counts g = output_at (g.width - 1) 0 cols counts g.x g.y no_vars g.vars
+-- the definition's output for these literals and counts
+abbrev pub output_of : List (List Lit) → List ℕ → EqInput → Adder2Output
+output_of cols counts g = output_at (g.width - 1) 0 cols counts g.x g.y no_vars g.vars
+
+abbrev pub eq_output : Columns → EqInput → Adder2Output
+eq_output cols = output_of cols.lits cols.counts
 
 -- the first pass: the definition's ordering clauses and variables, whatever literals the columns hold, and the carry into the last column
-pub record CarriesOrdered (d e counts : List ℕ) (g : EqInput) (a : Counts) (d' e' : List ℕ) (r : EqCarries) : Type 0 where
-  pub stores : (cols : List (List Lit)) → Wide cols → after d' e' r.used ≡ add_clauses 0 (eq_output cols counts g).sent (after d e a)
-  pub vars : (cols : List (List Lit)) → Wide cols → r.vars ≡ (eq_output cols counts g).vars
-  pub carry : carry_of r.carry ≡ (carries counts g).last
-  pub lits : r.used.lits ≤ a.lits + 312
-  pub clauses : r.used.clauses ≤ a.clauses + 156
-
--- the whole: all the clauses of the definition, in its order, and its variables
-pub record EqAdded (d e : List ℕ) (cols : List (List Lit)) (counts : List ℕ) (g : EqInput) (a : Counts) (d' e' : List ℕ) (r : EqCounts) : Type 0 where
-  pub stores : after d' e' r.used ≡ add_clauses 0 (adder2_clauses (eq_output cols counts g)) (after d e a)
-  pub vars : r.vars ≡ (eq_output cols counts g).vars
+pub record CarriesOrdered (s : ClauseSet) (counts : List ℕ) (g : EqInput) (t : ClauseSet) (r : Column) : Type 0 where
+  pub wrote : (cols : List (List Lit)) → Wide cols → Wrote s (output_of cols counts g).vars (output_of cols counts g).sent t
+  pub carry : carry_of r ≡ (carries counts g).last
+  pub lits : t.used.lits ≤ s.used.lits + 312
+  pub clauses : t.used.clauses ≤ s.used.clauses + 156
 
 -- The second pass ----------------------------------------------------------------------------------------------------
 
@@ -138,27 +127,15 @@ target_bit s = (s.x + s.y) % 2
 abbrev pub eq_carry_count : ℕ → EqState → ℕ
 eq_carry_count h s = (h + s.carry.count - target_bit s) / 2
 
-abbrev pub next_state : ℕ → EqState → Counts → EqState
-next_state h s u =
-    record { x = (s.x + 1) / 2; y = s.y / 2; vars = s.vars + eq_carry_count h s; carry = record { first = record { 0 = s.vars }; count = eq_carry_count h s }; used = u }
+abbrev pub next_state : ℕ → EqState → EqState
+next_state h s =
+    record { x = (s.x + 1) / 2; y = s.y / 2; vars = s.vars + eq_carry_count h s; carry = record { first = record { 0 = s.vars }; count = eq_carry_count h s } }
 
--- the state with another carry
-abbrev pub with_carry : VarRange → EqState → EqState
-with_carry p s = record { x = s.x; y = s.y; vars = s.vars; carry = p; used = s.used }
-
--- the clauses cs are added, at most as many as a column has
-pub record Wrote (d e : List ℕ) (a : Counts) (cs : Clauses) (d' e' : List ℕ) (r : Counts) : Type 0 where
-  pub stores : after d' e' r ≡ add_clauses 0 cs (after d e a)
-  pub lits : r.lits ≤ a.lits + 15728640
-  pub clauses : r.clauses ≤ a.clauses + 1048576
-
--- a column within bounds
-pub record EqColumnReady (ls : List Lit) (h : ℕ) (s : EqState) : Type 0 where
-  pub high : h + s.carry.count ≤ 12
+-- a column within bounds, with the carry into it
+pub record EqColumnReady (own : List Lit) (carry : VarRange) (s : EqState) : Type 0 where
+  pub high : length own + carry.count ≤ 12
   pub x : s.x ≤ 1073741824
   pub y : s.y ≤ 1073741824
   pub vars : s.vars < 536870912
-  pub first : s.carry.first.0 < 536870912
-  pub own : AllLow ls
-  pub lits : s.used.lits < 2 ^ 31
-  pub clauses : s.used.clauses < 2 ^ 31
+  pub first : carry.first.0 < 536870912
+  pub low : AllLow own

@@ -12,6 +12,7 @@ use Rattle.log_encoding.specs.Gather.{Grid}
 use Rattle.log_encoding.specs.LinearSize.{constant_shapes}
 use Rattle.log_encoding.proofs.LinearSize.{with_constant_shapes}
 use Rattle.log_adder.specs.AdderState.{CountsLow}
+use Rattle.log_adder.proofs.Taken.{shapes_taken}
 use Rattle.log_gather.specs.Arrays.{grid_columns}
 use Rattle.log_gather.proofs.Constants.{constant_grid}
 use Rattle.log_counts.specs.Counted.{CountsHold}
@@ -75,9 +76,7 @@ pad_length (suc n) (h ∷ hs) = omega (arith, pad_length n hs)
 
 -- the columns in use make the same columns
 pub taken_input : (w k : ℕ) (xs : List ℕ) → w ≤ length xs → input_shapes (length (take w xs)) 0 (take w xs) k ≡ input_shapes w 0 xs k
-taken_input w k xs h =
-    let n = length-take-le w xs h in
-    ap (λ (m : ℕ). input_shapes m 0 (take w xs) k) n ∙ input_same w 0 0 k (take w xs) xs (λ i l. get_or-take w xs (0 + i) 0 (omega arith))
+taken_input w k xs h = shapes_taken xs w k h
 
 -- The counts held ----------------------------------------------------------------------------------------------------
 

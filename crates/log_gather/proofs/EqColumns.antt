@@ -8,7 +8,7 @@ use native.Mathlib.Omega.{arith}
 use borrow.Author.Tests.{leb-true}
 use lib.Dec.{leb}
 use lib.ListN.{length, get_or}
-use Rattle.sat.specs.declared.Lit.{Lit}
+use Rattle.log_adder.specs.declared.Columns.{Columns}
 use Rattle.log_adder.specs.declared.VarRange.{VarRange}
 use Rattle.log_adder.specs.ColumnInfo.{range_lits}
 use Rattle.sat.proofs.Fresh.{length_fresh}
@@ -47,36 +47,36 @@ eq_columns_grid (d ∷ g) c x y =
     )
 
 -- the adder over the arrays
-pub output_grid : (cols : List (List Lit)) (counts : List ℕ) (g : Grid) → Holds cols counts g
-    → (w i x y : ℕ) (p : VarRange) (v : ℕ) → i + w < 32 → tall_from counts (suc w) i x y p.count ≡ false
-    → output_at w i cols counts x y p v ≡ adder2 (grid_eq_columns w i g x y) (grid_last_column w i g x y) (range_lits p) v
-output_grid cols counts g h zero i x y p v l k =
-    let hi = column_fits counts 1 i x y p.count (omega arith) k in
+pub output_grid : (cols : Columns) (g : Grid) → Holds cols g
+    → (w i x y : ℕ) (p : VarRange) (v : ℕ) → i + w < 32 → tall_from cols.counts (suc w) i x y p.count ≡ false
+    → output_at w i cols.lits cols.counts x y p v ≡ adder2 (grid_eq_columns w i g x y) (grid_last_column w i g x y) (range_lits p) v
+output_grid cols g h zero i x y p v l k =
+    let hi = column_fits cols.counts 1 i x y p.count (omega arith) k in
     let n = h.count i (omega arith) in
     ap (λ (o : List ℕ). adder2 [] (record { own = o; plus = x; target = y }) (range_lits p) v) (h.own i (omega arith) (omega arith))
-output_grid cols counts g h (suc w) i x y p v l k =
-    go (leb ((x + y) % 2) (get_or counts i 0 + p.count)) refl
-    (λ q sh. output_grid cols counts g h w (i + 1) ((x + 1) / 2) (y / 2) q (v + q.count) (omega arith) sh)
+output_grid cols g h (suc w) i x y p v l k =
+    go (leb ((x + y) % 2) (get_or cols.counts i 0 + p.count)) refl
+    (λ q sh. output_grid cols g h w (i + 1) ((x + 1) / 2) (y / 2) q (v + q.count) (omega arith) sh)
   where
-    hi : get_or counts i 0 + p.count ≤ 12
-    hi = column_fits counts (suc (suc w)) i x y p.count (omega arith) k
+    hi : get_or cols.counts i 0 + p.count ≤ 12
+    hi = column_fits cols.counts (suc (suc w)) i x y p.count (omega arith) k
 
-    same : own_at cols counts i ≡ get_or g i []
+    same : own_at cols.lits cols.counts i ≡ get_or g i []
     same = let n = h.count i (omega arith) in let z = hi in h.own i (omega arith) (omega arith)
 
-    size : length (get_or g i []) ≡ get_or counts i 0
+    size : length (get_or g i []) ≡ get_or cols.counts i 0
     size = sym (h.count i (omega arith))
 
     carry : length (range_lits p) ≡ p.count
     carry = length_fresh p.count p.first.0
 
-    go : (t : Bool) → leb ((x + y) % 2) (get_or counts i 0 + p.count) ≡ t
-        → ((q : VarRange) → tall_from counts (suc w) (i + 1) ((x + 1) / 2) (y / 2) q.count ≡ false
-        → output_at w (i + 1) cols counts ((x + 1) / 2) (y / 2) q (v + q.count) ≡ adder2 (grid_eq_columns w (i + 1) g ((x + 1) / 2) (y / 2)) (grid_last_column w (i + 1) g ((x + 1) / 2) (y / 2)) (range_lits q) (v + q.count))
-        → output_at (suc w) i cols counts x y p v ≡ adder2 (grid_eq_columns (suc w) i g x y) (grid_last_column (suc w) i g x y) (range_lits p) v
+    go : (t : Bool) → leb ((x + y) % 2) (get_or cols.counts i 0 + p.count) ≡ t
+        → ((q : VarRange) → tall_from cols.counts (suc w) (i + 1) ((x + 1) / 2) (y / 2) q.count ≡ false
+        → output_at w (i + 1) cols.lits cols.counts ((x + 1) / 2) (y / 2) q (v + q.count) ≡ adder2 (grid_eq_columns w (i + 1) g ((x + 1) / 2) (y / 2)) (grid_last_column w (i + 1) g ((x + 1) / 2) (y / 2)) (range_lits q) (v + q.count))
+        → output_at (suc w) i cols.lits cols.counts x y p v ≡ adder2 (grid_eq_columns (suc w) i g x y) (grid_last_column (suc w) i g x y) (range_lits p) v
     go true e more =
-        let n : ℕ = (get_or counts i 0 + p.count - (x + y) % 2) / 2 in
-        let sh : tall_from counts (suc w) (i + 1) ((x + 1) / 2) (y / 2) n ≡ false =
-        rw (sub-one (suc (suc w))) at (fits_step counts (suc (suc w)) i x y p.count (omega arith) (leb-true ((x + y) % 2) (get_or counts i 0 + p.count) e) k) in
+        let n : ℕ = (get_or cols.counts i 0 + p.count - (x + y) % 2) / 2 in
+        let sh : tall_from cols.counts (suc w) (i + 1) ((x + 1) / 2) (y / 2) n ≡ false =
+        rw (sub-one (suc (suc w))) at (fits_step cols.counts (suc (suc w)) i x y p.count (omega arith) (leb-true ((x + y) % 2) (get_or cols.counts i 0 + p.count) e) k) in
         rw (same, size, carry, e, more (record { first = record { 0 = v }; count = n }) sh)
     go false e more = rw (same, size, carry, e)

@@ -3,3 +3,4 @@ pub mod Widths
 pub mod Constants
 pub mod EqColumns
 pub mod Steps
+pub mod Slices

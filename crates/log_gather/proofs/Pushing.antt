@@ -13,6 +13,7 @@ use lib.ListN.{length, get_or, get_or-replicate, set, take, replicate, length-se
 use lib.Seq.{get_or-set_same, get_or-set_other, take-suc, take-suc-set}
 use Rattle.sat.specs.declared.Lit.{Lit}
 use Rattle.log_adder.specs.ColumnInfo.{AllLow}
+use Rattle.log_adder.specs.declared.Columns.{Columns}
 use Rattle.sat.specs.LitArray.{first_lits, lit, num}
 use Rattle.arithmetic.proofs.Tests.{same_or}
 use Rattle.sat.proofs.Every.{every_set}
@@ -56,40 +57,40 @@ push_last (suc o) xs x (c ∷ g) =
 
 -- The arrays ---------------------------------------------------------------------------------------------------------
 
-module _ (cols : List (List Lit)) (counts : List ℕ) (w : ℕ) (l : Lit) (h : w < 32) (low : l.0 < 2 ^ 31) (z : Arrays cols counts) where
+module _ (c : Columns) (w : ℕ) (l : Lit) (h : w < 32) (low : l.0 < 2 ^ 31) (z : Arrays c) where
   abbrev n· : ℕ
-  n· = get_or counts w 0
+  n· = get_or c.counts w 0
 
   abbrev counts· : List ℕ
-  counts· = set counts w (n· + 1)
+  counts· = set c.counts w (n· + 1)
 
-  abbrev cols· : List (List Lit)
-  cols· = set cols w (set (get_or cols w []) n· l)
+  abbrev lits· : List (List Lit)
+  lits· = set c.lits w (set (get_or c.lits w []) n· l)
 
-  few· : (m : ℕ) → Few m counts → Few (m + 1) counts·
-  few· m b = every_set 0 (λ (x : ℕ). x ≤ m + 1) counts w (n· + 1) (λ i. let k = b i in omega arith) (let k = b w in omega arith)
+  few· : (m : ℕ) → Few m c → (i : ℕ) → get_or counts· i 0 ≤ m + 1
+  few· m b = every_set 0 (λ (x : ℕ). x ≤ m + 1) c.counts w (n· + 1) (λ i. let k = b i in omega arith) (let k = b w in omega arith)
 
   same_count : get_or counts· w 0 ≡ n· + 1
-  same_count = get_or-set_same counts w (n· + 1) 0 (let k = z.places in omega arith)
+  same_count = get_or-set_same c.counts w (n· + 1) 0 (let k = z.places in omega arith)
 
-  count_at : (g : Grid) → Holds cols counts g → (i : ℕ) → i < 32 → get_or counts· i 0 ≡ length (get_or (push_value w (l.0 ∷ []) g) i [])
+  count_at : (g : Grid) → Holds c g → (i : ℕ) → i < 32 → get_or counts· i 0 ≡ length (get_or (push_value w (l.0 ∷ []) g) i [])
   count_at g q i k =
       ⊎_elim
       (λ (e : i ≡ w). rw (e, same_count, push_same w l.0 g, length-append (get_or g w []) (l.0 ∷ [])) (ap (λ (x : ℕ). x + 1) (q.count w h)))
-      (λ (d : i ≡ w → ⊥). rw (get_or-set_other counts w i (n· + 1) 0 d, push_other w l.0 g i d) (q.count i k))
+      (λ (d : i ≡ w → ⊥). rw (get_or-set_other c.counts w i (n· + 1) 0 d, push_other w l.0 g i d) (q.count i k))
       (same_or i w)
 
   -- past 12 only the count grows
-  pub pushed_past : 12 ≤ n· → Pushed 1 cols counts (push_value w (l.0 ∷ [])) cols counts·
+  pub pushed_past : 12 ≤ n· → Pushed 1 c (push_value w (l.0 ∷ [])) (record { lits = c.lits; counts = counts· })
   pushed_past p =
       record {
-        arrays = record { rows = z.rows; places = length-set counts w (n· + 1) ∙ z.places; wide = z.wide; low = z.low };
+        arrays = record { rows = z.rows; places = length-set c.counts w (n· + 1) ∙ z.places; wide = z.wide; low = z.low };
         few = few·;
         holds = λ g q. record { count = count_at g q; own = own_at g q };
       }
     where
-      own_at : (g : Grid) → Holds cols counts g → (i : ℕ) → i < 32 → length (get_or (push_value w (l.0 ∷ []) g) i []) ≤ 12
-          → map num (take (get_or counts· i 0) (get_or cols i [])) ≡ get_or (push_value w (l.0 ∷ []) g) i []
+      own_at : (g : Grid) → Holds c g → (i : ℕ) → i < 32 → length (get_or (push_value w (l.0 ∷ []) g) i []) ≤ 12
+          → map num (take (get_or counts· i 0) (get_or c.lits i [])) ≡ get_or (push_value w (l.0 ∷ []) g) i []
       own_at g q i k s =
           ⊎_elim
           (λ (e : i ≡ w).
@@ -99,60 +100,60 @@ module _ (cols : List (List Lit)) (counts : List ℕ) (w : ℕ) (l : Lit) (h : w
           absurd (omega arith))
           (λ (d : i ≡ w → ⊥).
           let o = push_other w l.0 g i d in
-          rw (get_or-set_other counts w i (n· + 1) 0 d, o) (q.own i k (rw o at s)))
+          rw (get_or-set_other c.counts w i (n· + 1) 0 d, o) (q.own i k (rw o at s)))
           (same_or i w)
 
-  row_long : length (get_or cols w []) ≡ 12
+  row_long : length (get_or c.lits w []) ≡ 12
   row_long = z.wide w h
 
   -- below 12 it is stored
-  pub pushed_stored : n· < 12 → Pushed 1 cols counts (push_value w (l.0 ∷ [])) cols· counts·
+  pub pushed_stored : n· < 12 → Pushed 1 c (push_value w (l.0 ∷ [])) (record { lits = lits·; counts = counts· })
   pushed_stored p =
       record {
         arrays =
             record {
-              rows = length-set cols w (set (get_or cols w []) n· l) ∙ z.rows;
-              places = length-set counts w (n· + 1) ∙ z.places;
+              rows = length-set c.lits w (set (get_or c.lits w []) n· l) ∙ z.rows;
+              places = length-set c.counts w (n· + 1) ∙ z.places;
               wide = wide_at;
-              low = every_set [] AllLow cols w (set (get_or cols w []) n· l) z.low (every_set (lit 0) (λ (x : Lit). x.0 < 2 ^ 31) (get_or cols w []) n· l (z.low w) low);
+              low = every_set [] AllLow c.lits w (set (get_or c.lits w []) n· l) z.low (every_set (lit 0) (λ (x : Lit). x.0 < 2 ^ 31) (get_or c.lits w []) n· l (z.low w) low);
             };
         few = few·;
         holds = λ g q. record { count = count_at g q; own = own_at g q };
       }
     where
-      same_row : get_or cols· w [] ≡ set (get_or cols w []) n· l
-      same_row = get_or-set_same cols w (set (get_or cols w []) n· l) [] (let k = z.rows in omega arith)
+      same_row : get_or lits· w [] ≡ set (get_or c.lits w []) n· l
+      same_row = get_or-set_same c.lits w (set (get_or c.lits w []) n· l) [] (let k = z.rows in omega arith)
 
-      wide_at : (i : ℕ) → i < 32 → length (get_or cols· i []) ≡ 12
+      wide_at : (i : ℕ) → i < 32 → length (get_or lits· i []) ≡ 12
       wide_at i k =
           ⊎_elim
-          (λ (e : i ≡ w). rw (e, same_row) (length-set (get_or cols w []) n· l ∙ row_long))
-          (λ (d : i ≡ w → ⊥). rw (get_or-set_other cols w i (set (get_or cols w []) n· l) [] d) (z.wide i k))
+          (λ (e : i ≡ w). rw (e, same_row) (length-set (get_or c.lits w []) n· l ∙ row_long))
+          (λ (d : i ≡ w → ⊥). rw (get_or-set_other c.lits w i (set (get_or c.lits w []) n· l) [] d) (z.wide i k))
           (same_or i w)
 
-      own_at : (g : Grid) → Holds cols counts g → (i : ℕ) → i < 32 → length (get_or (push_value w (l.0 ∷ []) g) i []) ≤ 12
-          → map num (take (get_or counts· i 0) (get_or cols· i [])) ≡ get_or (push_value w (l.0 ∷ []) g) i []
+      own_at : (g : Grid) → Holds c g → (i : ℕ) → i < 32 → length (get_or (push_value w (l.0 ∷ []) g) i []) ≤ 12
+          → map num (take (get_or counts· i 0) (get_or lits· i [])) ≡ get_or (push_value w (l.0 ∷ []) g) i []
       own_at g q i k s =
           ⊎_elim
           (λ (e : i ≡ w).
           let b : n· ≡ length (get_or g w []) = q.count w h in
-          let c : n· < length (get_or cols w []) = let r = row_long in omega arith in
-          rw (e, same_count, same_row, push_same w l.0 g, add-one n·, take-suc-set (get_or cols w []) n· l c, map-append num (take n· (get_or cols w [])) (l ∷ []))
+          let m : n· < length (get_or c.lits w []) = let r = row_long in omega arith in
+          rw (e, same_count, same_row, push_same w l.0 g, add-one n·, take-suc-set (get_or c.lits w []) n· l m, map-append num (take n· (get_or c.lits w [])) (l ∷ []))
           (ap (λ (x : List ℕ). x ++ (l.0 ∷ [])) (q.own w h (omega arith))))
           (λ (d : i ≡ w → ⊥).
           let o = push_other w l.0 g i d in
-          rw (get_or-set_other counts w i (n· + 1) 0 d, get_or-set_other cols w i (set (get_or cols w []) n· l) [] d, o) (q.own i k (rw o at s)))
+          rw (get_or-set_other c.counts w i (n· + 1) 0 d, get_or-set_other c.lits w i (set (get_or c.lits w []) n· l) [] d, o) (q.own i k (rw o at s)))
           (same_or i w)
 
 -- The loops ----------------------------------------------------------------------------------------------------------
 
 -- nothing pushed
-pub pushed_nothing : {cols : List (List Lit)} {counts : List ℕ} (k : ℕ) (f : Grid → Grid) → ((g : Grid) → f g ≡ g) → Arrays cols counts → Pushed k cols counts f cols counts
-pushed_nothing {counts = counts} k f e z = record { arrays = z; few = λ m b i. let r = b i in omega arith; holds = λ g q. rw (e g) q }
+pub pushed_nothing : {c : Columns} (k : ℕ) (f : Grid → Grid) → ((g : Grid) → f g ≡ g) → Arrays c → Pushed k c f c
+pushed_nothing {c} k f e z = record { arrays = z; few = λ m b i. let r = b i in omega arith; holds = λ g q. rw (e g) q }
 
 -- first one thing, then another
-pub pushed_then : {j k : ℕ} {cols cols₁ cols₂ : List (List Lit)} {counts counts₁ counts₂ : List ℕ} (f f₁ f₂ : Grid → Grid) → ((g : Grid) → f g ≡ f₂ (f₁ g))
-    → Pushed j cols counts f₁ cols₁ counts₁ → Pushed k cols₁ counts₁ f₂ cols₂ counts₂ → Pushed (j + k) cols counts f cols₂ counts₂
+pub pushed_then : {j k : ℕ} {c c₁ c₂ : Columns} (f f₁ f₂ : Grid → Grid) → ((g : Grid) → f g ≡ f₂ (f₁ g)) → Pushed j c f₁ c₁ → Pushed k c₁ f₂ c₂
+    → Pushed (j + k) c f c₂
 pushed_then {j} {k} f f₁ f₂ e a b =
     record {
       arrays = b.arrays;
@@ -184,8 +185,8 @@ pad_same (suc o) [] (suc i) = pad_same o [] i
 pad_same (suc o) (c ∷ g) zero = refl
 pad_same (suc o) (c ∷ g) (suc i) = pad_same o g i
 
-pub pushed_start : (cols : List (List Lit)) (counts : List ℕ) (o : ℕ) → Arrays cols counts → Pushed 0 cols counts (push_value o []) cols counts
-pushed_start cols counts o z =
+pub pushed_start : (c : Columns) (o : ℕ) → Arrays c → Pushed 0 c (push_value o []) c
+pushed_start c o z =
     record {
       arrays = z;
       few = λ m b i. let k = b i in omega arith;
@@ -196,44 +197,38 @@ pushed_start cols counts o z =
     }
 
 -- a bit of the coefficient
-pub pushed_bit : {n : ℕ} {cols cols₁ : List (List Lit)} {counts counts₁ : List ℕ} (k : ℕ) (f : Grid → Grid) → k % 2 ≡ 1
-    → Pushed n cols counts f cols₁ counts₁ → Pushed n cols counts (λ g. cond (eqb (k % 2) 1) (f g) g) cols₁ counts₁
+pub pushed_bit : {n : ℕ} {c d : Columns} (k : ℕ) (f : Grid → Grid) → k % 2 ≡ 1 → Pushed n c f d → Pushed n c (λ g. cond (eqb (k % 2) 1) (f g) g) d
 pushed_bit k f e a = record { arrays = a.arrays; few = a.few; holds = λ g q. rw (eq-eqb (k % 2) 1 e) (a.holds g q) }
 
-pub pushed_no_bit : {n : ℕ} (cols : List (List Lit)) (counts : List ℕ) (k : ℕ) (f : Grid → Grid) → (k % 2 ≡ 1 → ⊥) → Arrays cols counts
-    → Pushed n cols counts (λ g. cond (eqb (k % 2) 1) (f g) g) cols counts
-pushed_no_bit cols counts k f e z =
+pub pushed_no_bit : {n : ℕ} (c : Columns) (k : ℕ) (f : Grid → Grid) → (k % 2 ≡ 1 → ⊥) → Arrays c → Pushed n c (λ g. cond (eqb (k % 2) 1) (f g) g) c
+pushed_no_bit c k f e z =
     record { arrays = z; few = λ m b i. let r = b i in omega arith; holds = λ g q. rw (ne_eqb (k % 2) 1 e) q }
 
 -- i of the f bits so far, for n literals from column o on: what was pushed, after which those left give the whole
-pub record Scaling (n f o : ℕ) (ls : List ℕ) (coef : ℕ) (cols₀ : List (List Lit)) (counts₀ : List ℕ) (cols : List (List Lit)) (counts : List ℕ) (k i : ℕ) : Type 0 where
-  pub within : i ≤ f
+pub record Scaling (n f o : ℕ) (ls : List ℕ) (coef : ℕ) (c₀ c : Columns) (k i : ℕ) : Type 0 where
   pub so_far : Grid → Grid
-  pub pushed : Pushed (n * i) cols₀ counts₀ so_far cols counts
+  pub pushed : Pushed (n * i) c₀ so_far c
   pub same : (g : Grid) → push_scaled f coef o ls g ≡ push_scaled (f - i) k (o + i) ls (so_far g)
 
-pub scaling_start : (n f o : ℕ) (ls : List ℕ) (coef : ℕ) (cols : List (List Lit)) (counts : List ℕ) → Arrays cols counts → Scaling n f o ls coef cols counts cols counts coef 0
-scaling_start n f o ls coef cols counts z =
-    record { within = omega arith; so_far = λ g. g; pushed = pushed_nothing (n * 0) (λ g. g) (λ g. refl) z; same = λ g. rw (sub-zero f, add-zero o) }
+pub scaling_start : (n f o : ℕ) (ls : List ℕ) (coef : ℕ) (c : Columns) → Arrays c → Scaling n f o ls coef c c coef 0
+scaling_start n f o ls coef c z =
+    record { so_far = λ g. g; pushed = pushed_nothing (n * 0) (λ g. g) (λ g. refl) z; same = λ g. rw (sub-zero f, add-zero o) }
 
-module _ {n f o : ℕ} {ls : List ℕ} {coef : ℕ} {cols₀ : List (List Lit)} {counts₀ : List ℕ} {cols : List (List Lit)} {counts : List ℕ} {k i : ℕ} (s : Scaling n f o ls coef cols₀ counts₀ cols counts k i) where
-  pub scaling_turn : i < f → (cols₁ : List (List Lit)) (counts₁ : List ℕ) → Pushed n cols counts (λ g. cond (eqb (k % 2) 1) (push_value (o + i) ls g) g) cols₁ counts₁
-      → Scaling n f o ls coef cols₀ counts₀ cols₁ counts₁ (k / 2) (i + 1)
-  scaling_turn h cols₁ counts₁ a =
+module _ {n f o : ℕ} {ls : List ℕ} {coef : ℕ} {c₀ c : Columns} {k i : ℕ} (s : Scaling n f o ls coef c₀ c k i) where
+  pub scaling_turn : i < f → (d : Columns) → Pushed n c (λ g. cond (eqb (k % 2) 1) (push_value (o + i) ls g) g) d → Scaling n f o ls coef c₀ d (k / 2) (i + 1)
+  scaling_turn h d a =
       let next : Grid → Grid = λ g. cond (eqb (k % 2) 1) (push_value (o + i) ls (s.so_far g)) (s.so_far g) in
       let m : n * i + n ≡ n * (i + 1) = omega arith in
       let j : f - i - 1 ≡ f - (i + 1) = omega arith in
       let w : o + i + 1 ≡ o + (i + 1) = omega arith in
       record {
-        within = omega arith;
         so_far = next;
         pushed = rw (← m) (pushed_then next s.so_far (λ g. cond (eqb (k % 2) 1) (push_value (o + i) ls g) g) (λ g. refl) s.pushed a);
         same = λ g. s.same g ∙ scaled_step (f - i) k (o + i) ls (s.so_far g) (omega arith) ∙ ap₂ (λ (x y : ℕ). push_scaled x (k / 2) y ls (next g)) j w;
       }
 
-  pub scaling_end : f ≤ i → Pushed (n * f) cols₀ counts₀ (push_scaled f coef o ls) cols counts
-  scaling_end h =
-      let e : i ≡ f = omega (arith, s.within) in
+  pub scaling_end : i ≡ f → Pushed (n * f) c₀ (push_scaled f coef o ls) c
+  scaling_end e =
       record {
         arrays = s.pushed.arrays;
         few = rw e at s.pushed.few;
@@ -250,7 +245,11 @@ all_replicate P (suc n) x d p q (suc i) = all_replicate P n x d p q i
 zero_at : (n i : ℕ) → ◌≡◌ {A = ℕ} (get_or (replicate n 0) i 0) 0
 zero_at n i = all_replicate (λ (x : ℕ). x ≡ 0) n 0 0 refl refl i
 
-pub nothing_held : Arrays (replicate 32 (replicate 12 (lit 0))) (replicate 32 0) × Few 0 (replicate 32 0) × Holds (replicate 32 (replicate 12 (lit 0))) (replicate 32 0) []
+-- no literal anywhere
+abbrev none : Columns
+none = record { lits = replicate 32 (replicate 12 (lit 0)); counts = replicate 32 0 }
+
+pub nothing_held : Arrays none × Few 0 none × Holds none []
 nothing_held = (
   record {
     rows = refl;

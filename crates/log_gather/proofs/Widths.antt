@@ -8,7 +8,7 @@ use native.Mathlib.Numerals.{add-one, sub-one}
 use native.Mathlib.Omega.{arith}
 use lib.Dec.{eqb}
 use lib.ListN.{length, get_or, take}
-use Rattle.sat.specs.declared.Lit.{Lit}
+use Rattle.log_adder.specs.declared.Columns.{Columns}
 use Rattle.sat.specs.LitArray.{num}
 use Rattle.log_adder.specs.AdderState.{input_columns}
 use Rattle.log_encoding.specs.Gather.{Grid, push_scaled, push_value}
@@ -45,14 +45,14 @@ widths_end (suc f) k o n w h = absurd (not-suc-le-zero h)
 -- The arrays' columns ------------------------------------------------------------------------------------------
 
 -- where no column that is reached is too tall, the adder's columns are the grid's
-pub columns_grid : (cols : List (List Lit)) (counts : List ℕ) (g : Grid) → Holds cols counts g
-    → (w i k c : ℕ) → i + w ≤ 32 → too_tall (reached (input_shapes w i counts k) c) ≡ false → input_columns w i cols counts k ≡ grid_columns w i g k
-columns_grid cols counts g h zero i k c l s = refl
-columns_grid cols counts g h (suc w) i k c l s =
-    let t : get_or counts i 0 + c ≤ 12 = column_fits counts (suc w) i k c (omega arith) s in
+pub columns_grid : (cols : Columns) (g : Grid) → Holds cols g
+    → (w i k c : ℕ) → i + w ≤ 32 → too_tall (reached (input_shapes w i cols.counts k) c) ≡ false → input_columns w i cols.lits cols.counts k ≡ grid_columns w i g k
+columns_grid cols g h zero i k c l s = refl
+columns_grid cols g h (suc w) i k c l s =
+    let t : get_or cols.counts i 0 + c ≤ 12 = column_fits cols.counts (suc w) i k c (omega arith) s in
     let n = h.count i (omega arith) in
-    let e : map num (take (get_or counts i 0) (get_or cols i [])) ≡ get_or g i [] = h.own i (omega arith) (omega arith) in
-    let left : too_tall (reached (input_shapes w (i + 1) counts (k / 2)) ((k % 2 + get_or counts i 0 + c) / 2)) ≡ false =
-    rw (sub-one (suc w)) at (fits_step counts (suc w) i k c (omega arith) s) in
-    let r = columns_grid cols counts g h w (i + 1) (k / 2) ((k % 2 + get_or counts i 0 + c) / 2) (omega arith) left in
+    let e : map num (take (get_or cols.counts i 0) (get_or cols.lits i [])) ≡ get_or g i [] = h.own i (omega arith) (omega arith) in
+    let left : too_tall (reached (input_shapes w (i + 1) cols.counts (k / 2)) ((k % 2 + get_or cols.counts i 0 + c) / 2)) ≡ false =
+    rw (sub-one (suc w)) at (fits_step cols.counts (suc w) i k c (omega arith) s) in
+    let r = columns_grid cols g h w (i + 1) (k / 2) ((k % 2 + get_or cols.counts i 0 + c) / 2) (omega arith) left in
     λ j. record { own = e j; constant = k % 2 } ∷ r j

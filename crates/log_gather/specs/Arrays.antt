@@ -5,31 +5,32 @@ use Rattle.log_encoding.specs.Adder.{AdderColumn}
 use Rattle.log_encoding.specs.Gather.{Grid}
 use Rattle.log_adder.specs.AdderState.{own_at}
 use Rattle.log_adder.specs.ColumnInfo.{AllLow}
+use Rattle.log_adder.specs.declared.Columns.{Columns}
 use Rattle.sat.specs.LitArray.{lit}
 
 -- The arrays ---------------------------------------------------------------------------------------------------------
 
 -- the arrays as such: 32 columns of 12 places, small literals
-pub record Arrays (cols : List (List Lit)) (counts : List ℕ) : Type 0 where
-  pub rows : length cols ≡ 32
-  pub places : length counts ≡ 32
-  pub wide : (i : ℕ) → i < 32 → length (get_or cols i []) ≡ 12
-  pub low : (i : ℕ) → AllLow (get_or cols i [])
+pub record Arrays (c : Columns) : Type 0 where
+  pub rows : length c.lits ≡ 32
+  pub places : length c.counts ≡ 32
+  pub wide : (i : ℕ) → i < 32 → length (get_or c.lits i []) ≡ 12
+  pub low : (i : ℕ) → AllLow (get_or c.lits i [])
 
 -- counts of at most m
-abbrev pub Few : ℕ → List ℕ → Type 0
-Few m counts = (i : ℕ) → get_or counts i 0 ≤ m
+abbrev pub Few : ℕ → Columns → Type 0
+Few m c = (i : ℕ) → get_or c.counts i 0 ≤ m
 
 -- they hold these columns
-pub record Holds (cols : List (List Lit)) (counts : List ℕ) (g : Grid) : Type 0 where
-  pub count : (i : ℕ) → i < 32 → get_or counts i 0 ≡ length (get_or g i [])
-  pub own : (i : ℕ) → i < 32 → length (get_or g i []) ≤ 12 → own_at cols counts i ≡ get_or g i []
+pub record Holds (c : Columns) (g : Grid) : Type 0 where
+  pub count : (i : ℕ) → i < 32 → get_or c.counts i 0 ≡ length (get_or g i [])
+  pub own : (i : ℕ) → i < 32 → length (get_or g i []) ≤ 12 → own_at c.lits c.counts i ≡ get_or g i []
 
 -- whatever the arrays held, they hold it now with the literals pushed; no count grew by more than k
-pub record Pushed (k : ℕ) (cols : List (List Lit)) (counts : List ℕ) (f : Grid → Grid) (cols' : List (List Lit)) (counts' : List ℕ) : Type 0 where
-  pub arrays : Arrays cols' counts'
-  pub few : (m : ℕ) → Few m counts → Few (m + k) counts'
-  pub holds : (g : Grid) → Holds cols counts g → Holds cols' counts' (f g)
+pub record Pushed (k : ℕ) (c : Columns) (f : Grid → Grid) (d : Columns) : Type 0 where
+  pub arrays : Arrays d
+  pub few : (m : ℕ) → Few m c → Few (m + k) d
+  pub holds : (g : Grid) → Holds c g → Holds d (f g)
 
 -- The width ----------------------------------------------------------------------------------------------------------
 

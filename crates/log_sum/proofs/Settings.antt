@@ -8,7 +8,7 @@ use native.Mathlib.Omega.{arith}
 use borrow.Author.Tests.{le-ltb}
 use lib.IntN.{negsuc, pos, ℤ}
 use lib.ListN.{length, get_or, set, take}
-use lib.Seq.{take-suc, take-suc-set}
+use lib.Seq.{get_or-take, length-take-le, take-suc, take-suc-set}
 use lib.Signed.{lt_z}
 use Rattle.arithmetic.specs.Integers.{down, up}
 use Rattle.sat.specs.declared.Lit.{Lit}
@@ -23,7 +23,7 @@ use Rattle.log_encoding.specs.LinearSize.{linear_log_reached, linear_reached, sh
 use Rattle.log_encoding.proofs.LinearSize.{term_shapes_are}
 use Rattle.log_var.specs.Settings.{shape_map_of}
 use Rattle.log_var.specs.Record.{int_map_of}
-use Rattle.log_terms.specs.Terms.{TermFits, TermsFit, no_term, shapes_all, weighted_all, weighted_of}
+use Rattle.log_terms.specs.Terms.{TermFits, TermsFit, no_term, shapes_all, weighted_of}
 use Rattle.log_terms.specs.declared.Weighted.{Weighted as WeightedLits}
 use Rattle.log_sum.proofs.Filling.{Filling, filling_end, filling_start, filling_turn}
 
@@ -58,21 +58,28 @@ module _ (im : ℕ → LogEncoding) {zs : List ℤ} {ts : List WeightedLits} {i 
       → weighted_of t ≡ weighted (get_or zs (2 * i + 1) (pos 0)) (im (up (get_or zs (2 * i) (pos 0)))).lits → TermFits 8 t → Weighing im zs (set ts i t) (i + 1)
   weighing_turn t h e f = filling_turn _ _ no_term weighted_of (TermFits 8) (term_of im) (weighted_terms im) w few (λ x us. refl) t h e f
 
-  pub weighing_end : length zs / 2 ≤ i → (weighted_all ts (length zs / 2) ≡ weighted_terms im (terms_of zs)) × TermsFit 8 ts (length zs / 2)
+  pub weighing_end : length zs / 2 ≤ i → let us = take (length zs / 2) ts in (map weighted_of us ≡ weighted_terms im (terms_of zs)) × TermsFit 8 us
   weighing_end h =
       let r = filling_end _ _ no_term weighted_of (TermFits 8) (term_of im) (weighted_terms im) w few refl h in
-      (r.0, record { few = omega arith; steps_fit = omega arith; fits = r.1 })
+      let long = length-take-le (length zs / 2) ts (omega (arith, w.long)) in (
+        r.0,
+        record {
+          few = omega (arith, long);
+          steps_fit = omega arith;
+          fits = λ k l. let m : k < length zs / 2 = omega (arith, long, l) in rw (get_or-take (length zs / 2) ts k no_term m) (r.1 k m);
+        },
+      )
 
 -- Sums over records ---------------------------------------------------------------------------------------------------
 
-module _ (es : List Encoding) (op : NormOp) (constant : ℤ) (zs : List ℤ) (ts : List WeightedLits) (n : ℕ) (k : ℤ)
-    (same : weighted_all ts n ≡ weighted_terms (int_map_of es) (terms_of zs)) (sum : k ≡ offset_constant (int_map_of es) constant (terms_of zs)) where
+module _ (es : List Encoding) (op : NormOp) (constant : ℤ) (zs : List ℤ) (ts : List WeightedLits) (k : ℤ)
+    (same : map weighted_of ts ≡ weighted_terms (int_map_of es) (terms_of zs)) (sum : k ≡ offset_constant (int_map_of es) constant (terms_of zs)) where
   -- the columns reached are those of the terms
-  pub reached_is : linear_reached op (shapes_all ts n) (up k) (down k) ≡ linear_log_reached (shape_map_of es) op constant (terms_of zs)
+  pub reached_is : linear_reached op (shapes_all ts) (up k) (down k) ≡ linear_log_reached (shape_map_of es) op constant (terms_of zs)
   reached_is =
       let s = ap (map shape_of) same ∙ term_shapes_are (int_map_of es) (terms_of zs) in
       λ i. linear_reached op (s i) (up (sum i)) (down (sum i))
 
   -- and so are the clauses
-  pub encoded_is : (v : ℕ) → encode_weighted op (weighted_all ts n) k v ≡ encode_linear_log (int_map_of es) op constant (terms_of zs) v
+  pub encoded_is : (v : ℕ) → encode_weighted op (map weighted_of ts) k v ≡ encode_linear_log (int_map_of es) op constant (terms_of zs) v
   encoded_is v = λ i. encode_weighted op (same i) (sum i) v

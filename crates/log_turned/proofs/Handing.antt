@@ -3,9 +3,8 @@ use Prim.Native.Nat.{◌≤◌}
 use lib.IntN.{ℤ}
 use lib.ListN.{length, take}
 use mathlib.Core.List.{List}
-use mathlib.Core.Path.{◌∙◌, ◌≡◌, sym}
+use mathlib.Core.Path.{◌∙◌, ◌≡◌}
 use native.Mathlib.Omega.{arith}
-use lib.Seq.{length-take-le}
 use mir.Syntax.{w32}
 use mir.Val.{of_z, to_z}
 use mir.ValLaws.{to_z-of_z}
@@ -38,10 +37,3 @@ module _ {op : CmpOp} {k : ℤ} {zs : List ℤ} {r : LinearLit} (t : Turns op k 
       → f (op_of r.op) (to_z w32 (of_z w32 r.constant)) (terms_of (take (length zs) r.terms))
       ≡ (let s = turned op k (terms_of zs) in f s.op s.constant s.terms)
   handed f = λ i. f (t.op_is i) ((machine ∙ t.constant_is) i) (t.terms_are i)
-
--- the lent part is as long as the terms
-pub part_long : {op : CmpOp} {k : ℤ} {zs : List ℤ} {r : LinearLit} → Turns op k zs r → length zs ≤ 12
-    → (length zs ≤ length r.terms) × (length zs ≡ length (take (length zs) r.terms))
-part_long {op} {k} {zs} {r} t few =
-    let h : length zs ≤ length r.terms = omega (arith, t.long, few) in
-    (h, sym (length-take-le (length zs) r.terms h))

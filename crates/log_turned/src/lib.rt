@@ -2,20 +2,18 @@
 // `encode_constraint` of encoder/mod.rs. A call that is lent no entries only counts.
 #![tactic(auto)]
 
-ghost use Rattle.std.specs.Prelude.{◌≡◌, false, ◌%◌, ◌≤◌, length, take};
+ghost use Rattle.std.specs.Prelude.{◌≡◌, false, ◌+◌, ◌%◌, ◌^◌, ◌≤◌, length, take};
 ghost use Rattle.arithmetic.specs.Integers.{down, up};
-ghost use Rattle.clause_set.specs.Stores.{after};
+ghost use Rattle.clause_set.specs.Stores.{AddedRule, Below};
 ghost use Rattle.norm_csp.specs.Rules.{cmp_op_of, terms_of};
 ghost use Rattle.log_encoding.specs.AdderSize.{greatest_height, too_tall};
 ghost use Rattle.log_encoding.specs.Turned.{encode_turned, turned_reached};
-ghost use Rattle.log_linear.specs.Added.{add_rule, rule_outcome};
 ghost use Rattle.log_sum.specs.Terms.{TermsReady};
 ghost use Rattle.log_var.specs.Record.{int_map_of};
 ghost use Rattle.log_var.specs.Settings.{shape_map_of};
 ghost use Rattle.log_turned.specs.Turning.{CoefsSmall, Turns, entry_of, signed_terms};
 
-use clause_set::Counts;
-use log_linear::RuleCounts;
+use clause_set::ClauseSet;
 use log_sum::{encode_linear_log, linear_height};
 use log_var::LogEncoding;
 
@@ -32,13 +30,7 @@ fn entry(negate: bool, i: usize, x: i32) -> i32
     requires { i % 2 ≡ 1 → (up x ≤ 255) × (down x ≤ 255) }
     ensures { result ≡ entry_of negate i x }
 {
-    if !negate {
-        return x;
-    }
-    if i % 2 == 0 {
-        return x;
-    }
-    -x
+    if negate && i % 2 == 1 { -x } else { x }
 }
 
 // A call's terms, the coefficients negated or not.
@@ -46,13 +38,10 @@ fn signed_terms(negate: bool, terms: &[i32]) -> [i32; 12]
     requires { CoefsSmall terms.now }
     ensures { (take (length terms.now) result ≡ signed_terms negate terms.now) × (length result ≡ 12) }
 {
-    let mut out = [0i32; 12];
-    let n = terms.len();
-    let mut i: usize = 0;
-    while i < n {
-        let x = terms[i];
-        out[i] = entry(negate, i, x);
-        i += 1;
+    let mut out = [0; 12];
+    for (i, x) in terms.iter().enumerate() {
+        let z = *x;
+        out[i] = entry(negate, i, z);
     }
     out
 }
@@ -96,44 +85,28 @@ pub fn turned(op: u32, constant: i32, terms: &[i32]) -> LinearLit
 }
 
 // The greatest height of a column that a sum reaches: above 12, document 01's 13.
-pub fn turned_height(encodings: [LogEncoding; 32], op: u32, constant: i32, terms: &[i32]) -> u32
-    requires terms_ready { TermsReady encodings terms.now }
+pub fn turned_height(encodings: &[LogEncoding; 32], op: u32, constant: i32, terms: &[i32]) -> u32
+    requires terms_ready { TermsReady encodings.now terms.now }
     requires constant_bound { (up constant ≤ 1000000) × (down constant ≤ 1000000) }
-    ensures { result ≡ greatest_height (turned_reached (shape_map_of encodings) (cmp_op_of op) constant (terms_of terms.now)) }
+    ensures { result ≡ greatest_height (turned_reached (shape_map_of encodings.now) (cmp_op_of op) constant (terms_of terms.now)) }
 {
     let t = turned(op, constant, terms);
-    let n = terms.len();
-    let list = t.terms;
-    linear_height(encodings, t.op, t.constant, &list[..n])
+    linear_height(encodings, t.op, t.constant, &t.terms[..terms.len()])
 }
 
 // The clauses of a sum: its columns fit.
 pub fn encode_turned(
-    lits: &mut [u32],
-    ends: &mut [u32],
-    encodings: [LogEncoding; 32],
+    set: &mut ClauseSet<'_>,
+    encodings: &[LogEncoding; 32],
     op: u32,
     constant: i32,
     terms: &[i32],
-    vars: u32,
-    at: Counts,
-) -> RuleCounts
-    requires terms_ready { TermsReady encodings terms.now }
-    requires constant_bound { (up constant ≤ 1000000) × (down constant ≤ 1000000) × (vars ≤ 65535) × (at.lits ≤ 16777216) × (at.clauses ≤ 16777216) }
-    requires terms_value { too_tall (turned_reached (shape_map_of encodings) (cmp_op_of op) constant (terms_of terms.now)) ≡ false }
-    ensures { rule_outcome lits.new ends.new result ≡ add_rule (encode_turned (int_map_of encodings) (cmp_op_of op) constant (terms_of terms.now) vars) (after lits.old ends.old at) }
+)
+    requires terms_ready { TermsReady encodings.now terms.now }
+    requires constant_bound { (up constant ≤ 1000000) × (down constant ≤ 1000000) × (set.old.vars ≤ 65535) × Below (2 ^ 24 + 1) set.old }
+    requires terms_value { too_tall (turned_reached (shape_map_of encodings.now) (cmp_op_of op) constant (terms_of terms.now)) ≡ false }
+    ensures { AddedRule set.old (encode_turned (int_map_of encodings.now) (cmp_op_of op) constant (terms_of terms.now) set.old.vars) set.new }
 {
     let t = turned(op, constant, terms);
-    let n = terms.len();
-    let list = t.terms;
-    encode_linear_log(
-        lits,
-        ends,
-        encodings,
-        t.op,
-        t.constant,
-        &list[..n],
-        vars,
-        at,
-    )
+    encode_linear_log(set, encodings, t.op, t.constant, &t.terms[..terms.len()]);
 }

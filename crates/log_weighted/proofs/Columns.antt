@@ -1,20 +1,21 @@
 -- The arrays' columns are the definitions': those of one sign with a constant's bits, and those of Eq.
 use mathlib.Core.Path.{◌≡◌, refl, ap, sym, ◌∙◌}
 use mathlib.Core.Bool.{false}
-use mathlib.Core.List.{List, [], ◌∷◌, map}
+use mathlib.Core.List.{[], ◌∷◌, map}
 use Prim.Native.Nat.{ℕ, zero, suc, max, ◌+◌, ◌-◌, ◌%◌, ◌/◌, ◌≤◌, ◌<◌}
 use native.Mathlib.Omega.{arith}
-use lib.ListN.{length, get_or, take}
+use lib.ListN.{get_or-map, length, length-map, take}
+use lib.Seq.{ext_get_or, get_or-take, length-take-le}
 use Rattle.arithmetic.specs.Bits.{bit_length}
 use Rattle.arithmetic.proofs.Bits.{bit_length_least}
-use Rattle.sat.specs.declared.Lit.{Lit}
+use Rattle.log_adder.specs.declared.Columns.{Columns}
 use Rattle.log_encoding.specs.Adder2.{adder2, eq_columns, last_column}
 use Rattle.log_adder.specs.AdderState.{input_columns}
 use Rattle.log_encoding.specs.Gather.{Grid, with_constant}
 use Rattle.log_encoding.specs.AdderSize.{column_shape, eq_reached, input_shapes, own_counts, reached, too_tall}
 use Rattle.log_adder2.specs.declared.EqInput.{EqInput}
 use Rattle.log_adder2.specs.EqState.{eq_output}
-use Rattle.log_adder2.proofs.EqHeights.{all_fit, counts_from, counts_from_take}
+use Rattle.log_adder2.proofs.EqHeights.{all_fit}
 use Rattle.log_gather.specs.Arrays.{grid_columns}
 use Rattle.log_gather.proofs.Constants.{constant_grid}
 use Rattle.log_gather.proofs.EqColumns.{eq_columns_grid, grid_eq_columns, grid_last_column, output_grid}
@@ -25,10 +26,10 @@ use Rattle.log_terms.specs.Gathered.{Gathered}
 pub constant_wide : (k : ℕ) → k < 33554432 → bit_length k ≤ 25
 constant_wide k h = bit_length_least k 25 h
 
-module _ {grid : Grid} {cols : List (List Lit)} {counts : List ℕ} (g : Gathered grid cols counts) where
+module _ {grid : Grid} {cols : Columns} (g : Gathered grid cols) where
   -- One sign ----------------------------------------------------------------------------------------------------------
 
-  shapes_from : (w i k : ℕ) → i + w ≤ 32 → input_shapes w i counts k ≡ map column_shape (grid_columns w i grid k)
+  shapes_from : (w i k : ℕ) → i + w ≤ 32 → input_shapes w i cols.counts k ≡ map column_shape (grid_columns w i grid k)
   shapes_from zero i k h = refl
   shapes_from (suc w) i k h =
       let n = g.holds.count i (omega arith) in
@@ -42,33 +43,27 @@ module _ {grid : Grid} {cols : List (List Lit)} {counts : List ℕ} (g : Gathere
     in_width : 0 + w ≤ 32
     in_width = omega (arith, constant_wide k low)
 
-    pub constant_shapes_are : input_shapes w 0 counts k ≡ map column_shape (with_constant 32 grid k)
+    pub constant_shapes_are : input_shapes w 0 cols.counts k ≡ map column_shape (with_constant 32 grid k)
     constant_shapes_are = shapes_from w 0 k in_width ∙ ap (map column_shape) (sym as_wide)
 
-    pub constant_columns_are : too_tall (reached (input_shapes w 0 counts k) 0) ≡ false → input_columns w 0 cols counts k ≡ with_constant 32 grid k
-    constant_columns_are t = columns_grid cols counts grid g.holds w 0 k 0 in_width t ∙ sym as_wide
+    pub constant_columns_are : too_tall (reached (input_shapes w 0 cols.counts k) 0) ≡ false → input_columns w 0 cols.lits cols.counts k ≡ with_constant 32 grid k
+    constant_columns_are t = columns_grid cols grid g.holds w 0 k 0 in_width t ∙ sym as_wide
 
   -- Eq ----------------------------------------------------------------------------------------------------------------
 
-  pub counts_are : (w : ℕ) → w ≡ length grid → w ≤ 32 → take w counts ≡ own_counts grid
+  pub counts_are : (w : ℕ) → w ≡ length grid → w ≤ 32 → take w cols.counts ≡ own_counts grid
   counts_are w e h =
-      let z = g.arrays.places in
-      counts_from_take counts w (omega arith) ∙ ap (λ (n : ℕ). counts_from counts n 0) e ∙ go grid 0 (λ j k. ap (λ (n : ℕ). get_or counts n 0) (omega arith) ∙ g.holds.count j (omega arith))
-    where
-      go : (cs : Grid) (i : ℕ) → ((j : ℕ) → j < length cs → get_or counts (i + j) 0 ≡ length (get_or cs j [])) → counts_from counts (length cs) i ≡ map length cs
-      go [] i f = refl
-      go (c ∷ cs) i f =
-          let a : get_or counts i 0 ≡ length c = ap (λ (n : ℕ). get_or counts n 0) (omega arith) ∙ f 0 (omega arith) in
-          let r = go cs (i + 1) (λ j k. ap (λ (n : ℕ). get_or counts n 0) (omega arith) ∙ f (suc j) (omega arith)) in
-          λ n. a n ∷ r n
+      let long = length-take-le w cols.counts (omega (arith, g.arrays.places)) in
+      ext_get_or 0 (take w cols.counts) (own_counts grid) (long ∙ e ∙ sym (length-map grid length))
+      (λ i k. get_or-take w cols.counts i 0 (omega (arith, long)) ∙ g.holds.count i (omega (arith, long)) ∙ sym (get_or-map length grid i []))
 
   pub eq_output_is : (q : EqInput) → q.width ≡ length grid → 1 ≤ q.width → q.width ≤ 25
-      → too_tall (eq_reached (take q.width counts) q.x q.y 0) ≡ false
-      → eq_output cols counts q ≡ adder2 (eq_columns grid q.x q.y) (last_column grid q.x q.y) [] q.vars
+      → too_tall (eq_reached (take q.width cols.counts) q.x q.y 0) ≡ false
+      → eq_output cols q ≡ adder2 (eq_columns grid q.x q.y) (last_column grid q.x q.y) [] q.vars
   eq_output_is q e some few t =
       let z = g.arrays.places in
-      output_grid cols counts grid g.holds (q.width - 1) 0 q.x q.y (record { first = record { 0 = 0 }; count = 0 }) q.vars (omega arith)
-      (all_fit counts q.width q.x q.y some (omega arith) t)
+      output_grid cols grid g.holds (q.width - 1) 0 q.x q.y (record { first = record { 0 = 0 }; count = 0 }) q.vars (omega arith)
+      (all_fit cols.counts q.width q.x q.y some (omega arith) t)
       ∙ go grid (q.width - 1) (omega arith)
     where
       go : (cs : Grid) (w : ℕ) → suc w ≡ length cs

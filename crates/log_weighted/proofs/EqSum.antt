@@ -1,4 +1,4 @@
--- Eq of terms, as the adder of the arrays adds it.
+-- Eq of terms, as the adder adds it.
 use mathlib.Core.Path.{◌≡◌, refl, ap, sym, ◌∙◌}
 use mathlib.Core.Bool.{false}
 use mathlib.Core.List.{List, [], ◌∷◌, map}
@@ -6,17 +6,16 @@ use Prim.Native.Nat.{ℕ, ◌+◌, ◌-◌, ◌≤◌}
 use native.Mathlib.Omega.{arith}
 use lib.ListN.{length, take}
 use Rattle.sat.specs.Encoded.{EncodedRule}
-use Rattle.sat.specs.declared.Lit.{Lit}
-use Rattle.clause_set.specs.Stores.{add_clauses, after}
-use Rattle.clause_set.specs.declared.Counts.{Counts}
+use Rattle.clause_set.specs.Stores.{AddedRule, Wrote}
+use Rattle.clause_set.specs.declared.ClauseSet.{ClauseSet}
+use Rattle.clause_set.proofs.Writing.{wrote_as}
 use Rattle.norm_csp.specs.NormOp.{eq}
 use Rattle.log_encoding.specs.Adder2.{Adder2Output, adder2, adder2_clauses, eq_adder, eq_columns, last_column}
 use Rattle.log_encoding.specs.Gather.{Grid}
 use Rattle.log_encoding.specs.AdderSize.{eq_reached, too_tall}
-use Rattle.log_adder2.specs.EqState.{EqAdded, EqFits}
+use Rattle.log_adder.specs.declared.Columns.{Columns}
+use Rattle.log_adder2.specs.EqState.{EqFits, eq_input, eq_output}
 use Rattle.log_adder2.specs.declared.EqInput.{EqInput}
-use Rattle.log_adder2.specs.declared.EqCounts.{EqCounts}
-use Rattle.log_linear.specs.Added.{add_rule, rule_outcome}
 use Rattle.log_encoding.specs.EncodeLinearLog.{eq_rule}
 use Rattle.log_encoding.specs.Linear.{Weighted, gather, linear_eq, negated_constant}
 use Rattle.log_encoding.specs.LinearSize.{gather_counts, linear_reached, negated_bits, shape_of}
@@ -47,31 +46,28 @@ no_columns_are ws a b x y v p h = (λ i. eq_rule (eq_adder [] (p.x_is i) (p.y_is
     go [] h = refl
     go (c ∷ grid) h = absurd (omega arith)
 
-module _ (ws : List Weighted) {cols : List (List Lit)} {counts : List ℕ} (g : Gathered (gather ws []) cols counts) (w : ℕ) (wide : w ≡ length (gather ws [])) (few : w ≤ 25)
+module _ (ws : List Weighted) {cols : Columns} (g : Gathered (gather ws []) cols) (w : ℕ) (wide : w ≡ length (gather ws [])) (few : w ≤ 25)
     (a b x y : ℕ) (p : EqParts ws a b x y) where
   -- the columns reached are the definition's
-  pub eq_reaches : eq_reached (take w counts) x y 0 ≡ linear_reached eq (map shape_of ws) a b
+  pub eq_reaches : eq_reached (take w cols.counts) x y 0 ≡ linear_reached eq (map shape_of ws) a b
   eq_reaches =
       let n = negated_bits_are ws in
       let i : x ≡ a - (b + negated_bits (map shape_of ws)) = omega (arith, p.x_is) in
       let j : y ≡ b + negated_bits (map shape_of ws) - a = omega (arith, p.y_is) in
-      let h : take w counts ≡ gather_counts (map shape_of ws) [] = counts_are g w wide (omega arith) ∙ gather_counts_are ws [] in
+      let h : take w cols.counts ≡ gather_counts (map shape_of ws) [] = counts_are g w wide (omega arith) ∙ gather_counts_are ws [] in
       λ k. eq_reached (h k) (i k) (j k) 0
 
   module _ (some : 1 ≤ w) (fits : too_tall (linear_reached eq (map shape_of ws) a b) ≡ false) (v : ℕ) where
     abbrev input : EqInput
-    input = record { width = w; x = x; y = y; vars = v }
+    input = eq_input w x y v
 
-    pub eq_ready : x ≤ 1073741824 → y ≤ 1073741824 → v ≤ 1048576 → EqFits cols counts input
+    pub eq_ready : x ≤ 1073741824 → y ≤ 1073741824 → v ≤ 1048576 → EqFits cols input
     eq_ready low lower small =
         record { some = some; width = omega arith; x = low; y = lower; vars = small; own = g.arrays.low; wide = g.arrays.wide }
 
-    pub eq_added : {d e d' e' : List ℕ} (c : Counts) (r : EqCounts) → EqAdded d e cols counts input c d' e' r
-        → rule_outcome d' e' (record { vars = r.vars; used = r.used }) ≡ add_rule (eq_rule (linear_eq ws a b v)) (after d e c)
-    eq_added {d} {e} {d'} {e'} c r h =
+    pub eq_added : {s t : ClauseSet} → (let out = eq_output cols input in Wrote s out.vars (adder2_clauses out) t) → AddedRule s (eq_rule (linear_eq ws a b v)) t
+    eq_added h =
+        let grid = gather ws [] in
         let out = eq_output_is g input wide some few (ap too_tall eq_reaches ∙ fits) in
-        let s = h.stores ∙ ap (λ (o : Adder2Output). add_clauses 0 (adder2_clauses o) (after d e c)) out in
-        let n = h.vars ∙ ap (λ (o : Adder2Output). o.vars) out in
-        let one : rule_outcome d' e' (record { vars = r.vars; used = r.used }) ≡ add_rule (eq_rule (eq_adder (gather ws []) x y v)) (after d e c) =
-        (λ i. record { stores = s i; vars = n i }) ∙ ap (λ (q : EncodedRule). add_rule q (after d e c)) (sym (some_columns (gather ws []) x y v (omega arith))) in
-        one ∙ (λ i. add_rule (eq_rule (eq_adder (gather ws []) (p.x_is i) (p.y_is i) v)) (after d e c))
+        let rule = sym (some_columns grid x y v (omega arith)) ∙ (λ i. eq_rule (eq_adder grid (p.x_is i) (p.y_is i) v)) in
+        wrote_as h (ap (λ (o : Adder2Output). o.vars) out ∙ ap (λ (r : EncodedRule). r.vars) rule) (ap adder2_clauses out ∙ ap (λ (r : EncodedRule). r.clauses) rule)

@@ -2,10 +2,10 @@
 use Rattle.log_encoding.proofs.Heights.{heights_end, heights_turn}
 use Rattle.log_adder.proofs.greatest_height.Goals as goal
 
-pub loop-i-preserved : goal.loop-i-preserved
-loop-i-preserved c =
-    let l = c.loop-i in
-    heights_turn _ _ _ l.invariant c.higher-most.result c.higher-most.ensures c.loop-i-test.true (c.requires.1 l.i)
+pub loop-count-preserved : goal.loop-count-preserved
+loop-count-preserved c =
+    let l = c.loop-count in
+    heights_turn _ _ _ l.invariant c.max-most.result c.max-most.ensures c.loop-count-test.true (c.requires l.count-index)
 
 pub returns : goal.returns
-returns c = heights_end _ _ _ c.loop-i.invariant c.loop-i-test.false
+returns c = heights_end _ _ _ c.loop-count.invariant c.loop-count-test.false

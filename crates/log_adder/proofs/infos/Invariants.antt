@@ -1,7 +1,6 @@
 -- `log_adder::infos` meets its contract.
 use mathlib.Core.Path.{◌≡◌}
 use mathlib.Core.List.{map}
-use Prim.Native.Nat.{◌-◌, ◌≤◌}
 use mathlib.Core.Bool.{false}
 use lib.ListN.{length, take}
 use Rattle.mixed.specs.Infos.{AllSmall}
@@ -10,7 +9,4 @@ use Rattle.log_adder.proofs.infos.Given as goal
 
 abbrev pub invariant-loop-i : goal.invariant-loop-i
 invariant-loop-i l =
-    (l.i ≤ l.n) × (length l.ts ≡ 15) × (take l.i l.ts ≡ map (lit_info false) (take l.i l.own)) × AllSmall l.ts
-
-abbrev pub decreases-loop-i : goal.decreases-loop-i
-decreases-loop-i l = l.n - l.i
+    (length l.ts ≡ 15) × (take l.i l.ts ≡ map (lit_info false) (take l.i l.c.own.now)) × AllSmall l.ts

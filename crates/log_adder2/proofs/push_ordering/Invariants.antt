@@ -1,14 +1,13 @@
--- `log_adder2::push_ordering` meets its contract. The loop's invariant: the ordering clauses left, added next, come to all of them.
+-- `log_adder2::push_ordering` meets its contract. The loop's invariant: the ordering clauses left.
 use mathlib.Core.Path.{◌≡◌}
-use Prim.Native.Nat.{◌+◌}
-use Rattle.sat.specs.Fresh.{fresh}
-use Rattle.clause_set.proofs.Adding.{Going}
+use Prim.Native.Nat.{◌≤◌}
+use Rattle.clause_set.proofs.Writing.{Left}
 use Rattle.log_encoding.specs.Adder2.{ordering}
+use Rattle.log_adder.specs.ColumnInfo.{range_lits}
+use Rattle.log_adder2.proofs.Ordering.{ordering_left}
 use Rattle.log_adder2.proofs.push_ordering.Given as goal
 
-abbrev pub invariant-loop-n : goal.invariant-loop-n
-invariant-loop-n l =
-    Going 0 l.initial.lits l.initial.ends l.initial.used (ordering (fresh l.initial.n l.initial.v)) l.lits l.ends l.used (ordering (fresh l.n l.v)) × (l.v + l.n ≡ l.initial.v + l.initial.n)
-
-abbrev pub decreases-loop-n : goal.decreases-loop-n
-decreases-loop-n l = l.n
+abbrev pub invariant-loop-i : goal.invariant-loop-i
+invariant-loop-i l =
+    let p = l.fn.carry in
+    Left l.fn.set (ordering (range_lits p)) l.set (ordering_left p.count p.first.0 l.i) × (l.set.vars ≡ l.fn.set.vars) × (1 ≤ l.i)

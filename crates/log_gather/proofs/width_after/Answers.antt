@@ -12,9 +12,8 @@ loop-o-preserved c =
     let l = c.loop-o in
     let f = c.args.steps in
     let j : f - l.o - 1 ≡ f - (l.o + 1) = omega arith in (
-      omega arith,
       c.width_bit-w.ensures.1,
-      l.invariant.2 ∙ widths_step (f - l.o) l.k l.o c.args.n l.w (omega arith)
+      l.invariant.1 ∙ widths_step (f - l.o) l.k l.o c.args.n l.w (omega (arith, c.loop-o-test.true))
           ∙ (λ i. widths (j i) (l.k / 2) (l.o + 1) c.args.n (sym c.width_bit-w.ensures.0 i)),
-      shl_next (2 ^ 32) l.o c.args.n l.k l.invariant.3,
+      shl_next (2 ^ 32) l.o c.args.n l.k l.invariant.2,
     )

@@ -16,4 +16,4 @@ pub overflow_add-o : goal.overflow_add-o
 overflow_add-o c = let r = reach (goal.at.overflow_add-o c).Start c.if-k-eq1.true in search rules
 
 pub returns-then-k-eq1 : goal.returns-then-k-eq1
-returns-then-k-eq1 c = let r = reach (goal.at.returns-then-k-eq1 c).Start c.if-k-eq1.true in (rw (eq-eqb _ 1 c.if-k-eq1.true) c.larger.ensures, omega arith)
+returns-then-k-eq1 c = let r = reach (goal.at.returns-then-k-eq1 c).Start c.if-k-eq1.true in (rw (eq-eqb _ 1 c.if-k-eq1.true) c.max.ensures, omega arith)

@@ -2,7 +2,7 @@
 use mathlib.Core.Path.{◌≡◌, ◌∙◌, ap}
 use Prim.Native.Nat.{◌/◌}
 use lib.IntN.{ℤ}
-use lib.ListN.{length}
+use lib.ListN.{length, take}
 use mir.Syntax.{w32}
 use mir.Val.{of_z, to_z}
 use mir.ValLaws.{to_z-of_z}
@@ -20,13 +20,13 @@ constant-is s = to_z-of_z w32 s.args.constant s.ranges.constant
 
 -- the constant with the offsets
 sum_is : (c : After-offset_constant-k)
-    → to_z w32 (of_z w32 c.offset_constant-k.result) ≡ offset_constant (int_map_of c.args.encodings) c.args.constant (terms_of c.args.terms.now)
+    → to_z w32 (of_z w32 c.offset_constant-k.result) ≡ offset_constant (int_map_of c.args.encodings.now) c.args.constant (terms_of c.args.terms.now)
 sum_is c =
     to_z-of_z w32 c.offset_constant-k.result (record { sfits = c.offset_constant-k.type_inv }) ∙ c.offset_constant-k.ensures.0
-    ∙ ap (λ (z : ℤ). offset_constant (int_map_of c.args.encodings) z (terms_of c.args.terms.now)) (to_z-of_z w32 c.args.constant c.ranges.constant)
+    ∙ ap (λ (z : ℤ). offset_constant (int_map_of c.args.encodings.now) z (terms_of c.args.terms.now)) (to_z-of_z w32 c.args.constant c.ranges.constant)
 
 pub returns : goal.returns
 returns c =
     c.weighted_height.ensures
     ∙ ap greatest_height
-    (reached_is c.args.encodings (op_of c.args.op) c.args.constant c.args.terms.now c.weighted_terms-ts.result (length c.args.terms.now / 2) _ c.weighted_terms-ts.ensures.0 (sum_is (goal.at.returns c).After-offset_constant-k))
+    (reached_is c.args.encodings.now (op_of c.args.op) c.args.constant c.args.terms.now (take (length c.args.terms.now / 2) c.weighted_terms-ts.result) _ c.weighted_terms-ts.ensures.0 (sum_is (goal.at.returns c).After-offset_constant-k))

@@ -1,7 +1,6 @@
 -- `log_sum::offset_constant` meets its contract.
 use mathlib.Core.Path.{◌≡◌}
-use Prim.Native.Nat.{◌+◌, ◌-◌, ◌*◌, ◌/◌, ◌≤◌}
-use lib.ListN.{length}
+use Prim.Native.Nat.{◌+◌, ◌*◌, ◌≤◌}
 use Rattle.arithmetic.specs.Integers.{down, up}
 use Rattle.norm_csp.specs.Rules.{linear_sum, terms_of}
 use Rattle.log_var.specs.Record.{int_map_of}
@@ -11,7 +10,4 @@ use Rattle.log_sum.proofs.offset_constant.Given as goal
 abbrev pub invariant-loop-i : goal.invariant-loop-i
 invariant-loop-i l =
     (linear_sum (λ j. (int_map_of l.encodings j).offset) l.initial.sum (terms_of l.terms) ≡ linear_sum (λ j. (int_map_of l.encodings j).offset) l.sum (terms_from l.terms l.i))
-    × (l.n ≡ length l.terms / 2) × (l.i ≤ l.n) × (up l.sum ≤ up l.initial.sum + 1044225 * l.i) × (down l.sum ≤ down l.initial.sum + 1044225 * l.i)
-
-abbrev pub decreases-loop-i : goal.decreases-loop-i
-decreases-loop-i l = l.n - l.i
+    × (up l.sum ≤ up l.initial.sum + 1044225 * l.i) × (down l.sum ≤ down l.initial.sum + 1044225 * l.i)

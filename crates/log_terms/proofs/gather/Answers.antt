@@ -1,29 +1,32 @@
 -- `log_terms::gather` meets its contract.
-use mathlib.Core.Path.{◌≡◌, ap}
+use mathlib.Core.Path.{ap, refl}
 use mathlib.Core.List.{List}
 use native.Mathlib.Omega.{arith}
-use lib.ListN.{get_or, length}
+use lib.ListN.{get_or}
 use Rattle.log_encoding.specs.Linear.{Weighted, gather, positive_lits, push_scaled_some}
 use Rattle.log_terms.specs.Terms.{no_term, weighted_of}
-use Rattle.log_terms.proofs.Gathering.{terms_next, gathering_start, gathering_turn}
+use Rattle.log_terms.proofs.Gathering.{gathering_end, gathering_few, gathering_start, gathering_turn, terms_next, terms_none}
 use Rattle.log_terms.proofs.gather.Goals as goal
-use Rattle.log_terms.proofs.gather.Goals.{Start}
 
-terms-long : (c : Start) → length c.args.ts ≡ 7
-terms-long c = c.well_formed.0.1.0.1
-
-pub loop-i-init : goal.loop-i-init
-loop-i-init c =
+pub loop-t-init : goal.loop-t-init
+loop-t-init c =
     let e = c.no_columns-cols.ensures in
-    (rw c.requires.counts_value (gathering_start e.0 e.1 e.2), omega arith)
+    gathering_start e.0 e.1 e.2
 
-pub loop-i-preserved : goal.loop-i-preserved
-loop-i-preserved c =
-    let l = c.loop-i in
-    let f = c.requires.terms_fit in
-    let t = get_or c.args.ts l.i no_term in
-    let e = terms_next c.args.ts c.args.n l.i (omega (arith, terms-long (goal.at.loop-i-preserved c).Start, f.few)) c.loop-i-test.true in (
-      gathering_turn l.invariant.0 (push_scaled_some t.coef (positive_lits (weighted_of t)))
-          (ap (λ (ps : List Weighted). gather ps l.invariant.0.left.grid) e) c.push_eq_term-next.ensures,
-      omega (arith, c.loop-i-test.true),
-    )
+pub push_eq_term-requires-clause-arrays : goal.push_eq_term-requires-clause-arrays
+push_eq_term-requires-clause-arrays c = let g = c.loop-t.invariant in (g.arrays, gathering_few g (omega (arith, c.requires.few, c.loop-t-test.true)))
+
+pub push_eq_term-requires-clause-steps_bound : goal.push_eq_term-requires-clause-steps_bound
+push_eq_term-requires-clause-steps_bound c = (c.requires.steps_fit, c.requires.fits c.loop-t.t-index c.loop-t-test.true)
+
+pub loop-t-preserved : goal.loop-t-preserved
+loop-t-preserved c =
+    let l = c.loop-t in
+    let t = get_or c.args.ts.now l.t-index no_term in
+    gathering_turn l.invariant (push_scaled_some t.coef (positive_lits (weighted_of t)))
+    (ap (λ (ps : List Weighted). gather ps l.invariant.left.grid) (terms_next c.args.ts.now l.t-index c.loop-t-test.true)) c.push_eq_term.ensures
+
+pub returns : goal.returns
+returns c =
+    let l = c.loop-t in
+    gathering_end l.invariant (omega (arith, l.auto.t-index-end, c.requires.few)) (λ g. refl) (terms_none c.args.ts.now l.t-index c.loop-t-test.false)

@@ -1,13 +1,9 @@
 -- `log_terms::gather_sign` meets its contract.
-use mathlib.Core.List.{[], ◌∷◌}
-use Prim.Native.Nat.{◌-◌, ◌≤◌}
+use mathlib.Core.List.{[], ◌∷◌, map}
 use Rattle.log_encoding.specs.Linear.{gather_sign}
-use Rattle.log_terms.specs.Terms.{weighted_all}
+use Rattle.log_terms.specs.Terms.{weighted_of}
 use Rattle.log_terms.proofs.Gathering.{Gathering}
 use Rattle.log_terms.proofs.gather_sign.Given as goal
 
-abbrev pub invariant-loop-i : goal.invariant-loop-i
-invariant-loop-i l = Gathering (gather_sign l.sign) (weighted_all l.ts l.n) ([] ∷ []) l.cols l.counts l.i × (l.i ≤ l.n)
-
-abbrev pub decreases-loop-i : goal.decreases-loop-i
-decreases-loop-i l = l.n - l.i
+abbrev pub invariant-loop-t : goal.invariant-loop-t
+invariant-loop-t l = Gathering (gather_sign l.sign) (map weighted_of l.ts) ([] ∷ []) l.cols l.t-index

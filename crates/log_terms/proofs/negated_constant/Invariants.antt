@@ -1,14 +1,12 @@
 -- `log_terms::negated_constant` meets its contract.
 use mathlib.Core.Path.{◌≡◌}
-use Prim.Native.Nat.{◌+◌, ◌-◌, ◌*◌, ◌≤◌}
+use mathlib.Core.List.{map}
+use Prim.Native.Nat.{◌+◌, ◌*◌, ◌≤◌}
 use lib.ListN.{drop}
 use Rattle.log_encoding.specs.Linear.{negated_constant}
-use Rattle.log_terms.specs.Terms.{weighted_all}
+use Rattle.log_terms.specs.Terms.{weighted_of}
 use Rattle.log_terms.proofs.negated_constant.Given as goal
 
-abbrev pub invariant-loop-i : goal.invariant-loop-i
-invariant-loop-i l =
-    (negated_constant (weighted_all l.ts l.n) ≡ l.sum + negated_constant (drop l.i (weighted_all l.ts l.n))) × (l.sum ≤ 33554432 * l.i) × (l.i ≤ l.n)
-
-abbrev pub decreases-loop-i : goal.decreases-loop-i
-decreases-loop-i l = l.n - l.i
+abbrev pub invariant-loop-t : goal.invariant-loop-t
+invariant-loop-t l =
+    (negated_constant (map weighted_of l.ts) ≡ l.sum + negated_constant (drop l.t-index (map weighted_of l.ts))) × (l.sum ≤ 33554432 * l.t-index)

@@ -7,14 +7,14 @@ use Rattle.log_terms.proofs.negated_term.Goals as goal
 
 pub overflow_sub-result : goal.overflow_sub-result
 overflow_sub-result c =
-    let t = c.args.t in
-    let m = shl_more 0 t.len t.coef (omega arith) in
-    let e = c.doubled-all.ensures in
+    let t = c.args.t.now in
+    let m = shl_more 0 t.bits.len t.coef (omega arith) in
+    let e = c.doubled.ensures in
     search rules
 
 pub returns-then-t : goal.returns-then-t
 returns-then-t c =
-    let t = c.args.t in
-    let e = c.doubled-all.ensures in
-    let n = negated_is t.coef t.len in
+    let t = c.args.t.now in
+    let e = c.doubled.ensures in
+    let n = negated_is t.coef t.bits.len in
     (rw c.if-t.true (omega (arith, e, n)), omega (arith, e, c.requires))

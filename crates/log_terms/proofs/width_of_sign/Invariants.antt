@@ -1,13 +1,10 @@
 -- `log_terms::width_of_sign` meets its contract.
-use mathlib.Core.List.{[], ◌∷◌}
-use Prim.Native.Nat.{◌-◌, ◌≤◌}
+use mathlib.Core.List.{[], ◌∷◌, map}
+use Prim.Native.Nat.{◌≤◌}
 use Rattle.log_encoding.specs.Linear.{gather_sign}
-use Rattle.log_terms.specs.Terms.{weighted_all}
+use Rattle.log_terms.specs.Terms.{weighted_of}
 use Rattle.log_terms.proofs.Gathering.{WidthLeft}
 use Rattle.log_terms.proofs.width_of_sign.Given as goal
 
-abbrev pub invariant-loop-i : goal.invariant-loop-i
-invariant-loop-i l = WidthLeft (gather_sign l.sign) (weighted_all l.ts l.n) ([] ∷ []) l.w l.i × (l.i ≤ l.n) × (l.w ≤ 25)
-
-abbrev pub decreases-loop-i : goal.decreases-loop-i
-decreases-loop-i l = l.n - l.i
+abbrev pub invariant-loop-t : goal.invariant-loop-t
+invariant-loop-t l = WidthLeft (gather_sign l.sign) (map weighted_of l.ts) ([] ∷ []) l.w l.t-index × (l.w ≤ 25)

@@ -16,4 +16,4 @@ turns c = rw (constant-is c.before) at c.turned-t.ensures
 
 pub linear_height-requires-clause-terms_ready : goal.linear_height-requires-clause-terms_ready
 linear_height-requires-clause-terms_ready c =
-    let t = turns (goal.at.linear_height-requires-clause-terms_ready c).After-turned-t in t.ready c.args.encodings c.requires.terms_ready
+    let t = turns (goal.at.linear_height-requires-clause-terms_ready c).After-turned-t in t.ready c.args.encodings.now c.requires.terms_ready

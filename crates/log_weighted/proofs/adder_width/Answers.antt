@@ -5,7 +5,7 @@ use Rattle.log_weighted.proofs.adder_width.Goals as goal
 
 pub returns : goal.returns
 returns c =
-    let w = c.width_of_sign-own.ensures in
+    let w = c.width_of_sign.ensures in
     let b = c.bit_length-more.ensures in
     let m = constant_wide c.args.constant c.requires.constant_bound in
-    (rw (← w.0, ← b) c.larger.ensures, omega (arith, c.larger.ensures, w.1, b, m))
+    (rw (← w.0, ← b) c.max.ensures, omega (arith, c.max.ensures, w.1, b, m))

@@ -1,12 +1,22 @@
 -- `log_weighted::sign_height` meets its contract.
 use mathlib.Core.Path.{◌∙◌, ap}
-use Rattle.log_encoding.specs.AdderSize.{greatest_height}
-use Rattle.log_terms.specs.Terms.{weighted_all}
+use mathlib.Core.List.{List, map}
+use native.Mathlib.Omega.{arith}
+use Rattle.log_adder.proofs.Taken.{low_taken, shapes_taken}
+use Rattle.log_encoding.specs.AdderSize.{ColumnShape, greatest_height, reached}
+use Rattle.log_terms.specs.Terms.{weighted_of}
 use Rattle.log_weighted.proofs.SignSum.{sign_reaches}
 use Rattle.log_weighted.proofs.sign_height.Goals as goal
 
+pub greatest_height-requires : goal.greatest_height-requires
+greatest_height-requires c =
+    let g = c.gather_sign-cols in
+    low_taken c.adder_width-width.result g.result.counts (λ i. let k = g.ensures.few i in omega arith)
+
 pub returns : goal.returns
 returns c =
-    let w = c.adder_width-width.ensures in
-    let g = c.gather_sign.ensures in
-    c.greatest_height.ensures ∙ ap greatest_height (sign_reaches c.args.sign (weighted_all c.args.ts c.args.n) g c.args.constant c.adder_width-width.result c.requires.constant_bound w.0 w.1)
+    let w = c.adder_width-width in
+    let g = c.gather_sign-cols in
+    c.greatest_height.ensures
+    ∙ ap (λ (cs : List ColumnShape). greatest_height (reached cs 0)) (shapes_taken g.result.counts w.result c.args.constant (omega (arith, w.ensures.1, g.ensures.arrays.places)))
+    ∙ ap greatest_height (sign_reaches c.args.sign (map weighted_of c.args.ts.now) g.ensures c.args.constant w.result c.requires.constant_bound w.ensures.0 w.ensures.1)

@@ -21,8 +21,8 @@ b-is c = c.down-b.ensures ∙ ap down (to_z-of_z w32 c.args.constant c.ranges.co
 
 pub returns : goal.returns
 returns c =
-    let h = shapes_all c.args.ts c.args.n in
+    let h = shapes_all c.args.ts.now in
     let p = c.sign_height-positive.ensures ∙ ap (λ (x : ℕ). greatest_height (sign_reached false h x)) (a-is (goal.at.returns c).After-up-a) in
     let m = c.sign_height-negative.ensures ∙ ap (λ (x : ℕ). greatest_height (sign_reached true h x)) (b-is (goal.at.returns c).After-down-b) in
-    c.higher.ensures ∙ (λ i. max (p i) (m i))
+    c.max.ensures ∙ (λ i. max (p i) (m i))
     ∙ higher_part c.args.op c.if-op-eq0.false h (up c.args.constant) (down c.args.constant)
