@@ -1,10 +1,10 @@
 -- The values of a list one after the other: their codes and the gaps between them.
 use Prim.Native.Nat.{◌+◌, ◌-◌, ◌<◌, ◌≤◌, suc, ℕ}
 use lib.IntN.{pos, ℤ}
-use lib.ListN.{drop, drop_of_length-le, get_or, length}
+use lib.ListN.{drop, get_or, length}
 use lib.Seq.{drop-cons}
 use lib.Signed.{◌<ℤ◌, ◌≤ℤ◌}
-use mathlib.Core.List.{List, [], ◌++◌, ◌∷◌, map}
+use mathlib.Core.List.{List, ◌++◌, ◌∷◌, map}
 use mathlib.Core.Path.{◌∙◌, ◌≡◌, ap, subst}
 use native.Mathlib.Numerals.{add-one}
 use native.Mathlib.Omega.{arith}
@@ -82,6 +82,3 @@ module _ (o : ℤ) (values : List ℤ) (i : ℕ) (h : i < length values - 1) whe
 
     pub next_rises : get_or values i (pos 0) <ℤ get_or values (i + 1) (pos 0)
     next_rises = rest.0
-
-pub gaps_end : (o : ℤ) (values : List ℤ) (i : ℕ) (ls : List ℕ) → length values - 1 ≤ i → gaps_from ls o values i ≡ []
-gaps_end o values i ls h = ap (λ zs. gaps ls (code o (get_or values i (pos 0))) (map (code o) zs)) (drop_of_length-le values (omega arith))

@@ -136,7 +136,6 @@ parts a b c = append_assoc a (b ++ []) c ∙ ap (λ x. a ++ (x ++ c)) (append-ni
 
 -- a list as its range and its gaps
 pub record ListParts (values : List ℤ) (s : ClauseSet) (low high : ℤ) : Type 0 where
-  pub some_value : 0 < length values
   pub ready_range : Ready (range low high) s
   pub rising : RisingAt (offset_of low) values 0
   pub clauses : (encode_var_log (range low high) s.vars).clauses ++ gaps_from (fresh (code_range low high).bits s.vars) (offset_of low) values 0
@@ -152,7 +151,6 @@ list_cons k ks s r =
     let f = codes_fit k high in_order r.encodable.1 r.low in
     let ls = fresh (bit_length (code o high)) s.vars in
     record {
-      some_value = omega arith;
       ready_range = record { encodable = (in_order, r.encodable.1); low = r.low; vars_fit = r.vars_fit; lits_fit = r.lits_fit; clauses_fit = r.clauses_fit };
       rising = record { offset_down = f.offset_down; here = omega arith; above = f.low_above; rising = r.encodable.0; last_up = f.high_up };
       clauses = parts (at_least ls (code o k)) (at_most ls (code o high)) (gaps ls (code o k) (map (code o) ks));
