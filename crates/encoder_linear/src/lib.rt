@@ -147,7 +147,7 @@ fn linear_checks(
     ensures { status result ≡ status_of (linear_checks env lits ends op constant terms.now) }
 {
     argument_checks(env, lits, ends, op, constant, terms)?;
-    if 12 < turned_height(env.encodings, op, constant, terms) {
+    if 12 < turned_height(&env.encodings, op, constant, terms) {
         return Err(Refusal::ColumnTooTall);
     }
     Ok(())
@@ -171,22 +171,7 @@ impl AddingCall for Sum<'_> {
     }
 
     fn write(&self, env: EncoderEnv, set: &mut ClauseSet<'_>) -> Option<LogEncoding> {
-        let vars = set.vars;
-        let at = set.used;
-        let lits = &mut *set.lits;
-        let ends = &mut *set.ends;
-        let new = encode_turned(
-            lits,
-            ends,
-            env.encodings,
-            self.op,
-            self.constant,
-            self.terms,
-            vars,
-            at,
-        );
-        set.vars = new.vars;
-        set.used = new.used;
+        encode_turned(set, &env.encodings, self.op, self.constant, self.terms);
         None
     }
 }
