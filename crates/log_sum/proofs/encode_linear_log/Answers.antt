@@ -9,7 +9,7 @@ use mir.Val.{of_z, to_z}
 use mir.ValLaws.{to_z-of_z}
 use Rattle.sat.specs.Encoded.{EncodedRule}
 use Rattle.clause_set.proofs.Writing.{wrote_as}
-use Rattle.norm_csp.specs.NormOp.{op_of}
+use Rattle.norm_csp.specs.Operations.{normalized}
 use Rattle.norm_csp.specs.Rules.{terms_of}
 use Rattle.log_encoding.specs.AdderSize.{too_tall}
 use Rattle.log_encoding.specs.EncodeLinearLog.{offset_constant}
@@ -40,7 +40,7 @@ encode_weighted-requires c =
     let t = c.weighted_terms-ts in
     let zs = c.args.terms.now in
     let r = to_z-of_z w32 w.result (record { sfits = w.type_inv }) in
-    let fits = ap too_tall (reached_is c.args.encodings.now (op_of c.args.op) c.args.constant zs (take (length zs / 2) t.result) _ t.ensures.0 sum) ∙ c.requires.terms_value in
+    let fits = ap too_tall (reached_is c.args.encodings.now (normalized c.args.op) c.args.constant zs (take (length zs / 2) t.result) _ t.ensures.0 sum) ∙ c.requires.terms_value in
     record { terms_fit = t.ensures.1; constant_bound = (rw r w.ensures.1, rw r w.ensures.2, omega (arith, p.2), p.3); constant_value = fits }
 
 pub returns : goal.returns
@@ -48,5 +48,5 @@ returns c =
     let sum = sum_is (goal.at.returns c).After-offset_constant-k in
     let t = c.weighted_terms-ts in
     let zs = c.args.terms.now in
-    let e = encoded_is c.args.encodings.now (op_of c.args.op) c.args.constant zs (take (length zs / 2) t.result) _ t.ensures.0 sum c.args.set.now.vars in
+    let e = encoded_is c.args.encodings.now (normalized c.args.op) c.args.constant zs (take (length zs / 2) t.result) _ t.ensures.0 sum c.args.set.now.vars in
     wrote_as c.encode_weighted.ensures (ap (λ (r : EncodedRule). r.vars) e) (ap (λ (r : EncodedRule). r.clauses) e)

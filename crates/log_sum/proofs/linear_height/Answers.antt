@@ -6,7 +6,7 @@ use lib.ListN.{length, take}
 use mir.Syntax.{w32}
 use mir.Val.{of_z, to_z}
 use mir.ValLaws.{to_z-of_z}
-use Rattle.norm_csp.specs.NormOp.{op_of}
+use Rattle.norm_csp.specs.Operations.{normalized}
 use Rattle.norm_csp.specs.Rules.{terms_of}
 use Rattle.log_encoding.specs.AdderSize.{greatest_height}
 use Rattle.log_encoding.specs.EncodeLinearLog.{offset_constant}
@@ -29,4 +29,4 @@ pub returns : goal.returns
 returns c =
     c.weighted_height.ensures
     ∙ ap greatest_height
-    (reached_is c.args.encodings.now (op_of c.args.op) c.args.constant c.args.terms.now (take (length c.args.terms.now / 2) c.weighted_terms-ts.result) _ c.weighted_terms-ts.ensures.0 (sum_is (goal.at.returns c).After-offset_constant-k))
+    (reached_is c.args.encodings.now (normalized c.args.op) c.args.constant c.args.terms.now (take (length c.args.terms.now / 2) c.weighted_terms-ts.result) _ c.weighted_terms-ts.ensures.0 (sum_is (goal.at.returns c).After-offset_constant-k))
