@@ -12,20 +12,15 @@ use std::io;
 
 // The greatest height that the call of a line reaches on this job.
 fn height(word: Word, nums: &[i64], env: EncoderEnv, lits: usize, ends: usize) -> u32 {
-    if lines::is_word(word, b"linear") {
-        let mut terms = [0i32; 4096];
-        return match script_calls::sum_of(nums, &mut terms) {
-            Some(s) => heights::sum_height(env, lits, ends, s.op, s.constant, s.terms),
-            None => 0,
-        };
-    }
-    if lines::is_word(word, b"mul") {
-        return match script_calls::product_of(nums) {
-            Some(p) => heights::product_height(env, lits, ends, p.x, p.y, p.m),
-            None => 0,
-        };
-    }
-    0
+    let mut terms = [0i32; 4096];
+    let most = match word.text() {
+        Some(b"linear") => script_calls::sum_of(nums, &mut terms)
+            .map(|s| heights::sum_height(env, lits, ends, s.op, s.constant, s.terms)),
+        Some(b"mul") => script_calls::product_of(nums)
+            .map(|p| heights::product_height(env, lits, ends, p.x, p.y, p.m)),
+        _ => None,
+    };
+    most.unwrap_or(0)
 }
 
 // `STATUS HEIGHT`
@@ -50,7 +45,7 @@ fn answer<R: Print>(
     lits: &mut [u32],
     ends: &mut [u32],
 ) -> io::Result<Option<EncoderEnv>> {
-    if lines::is_word(word, b"stores") {
+    if word.text() == Some(b"stores".as_slice()) {
         return Ok(are_lengths(nums).then_some(env));
     }
     let most = height(word, nums, env, lits.len(), ends.len());

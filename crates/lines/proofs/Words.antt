@@ -9,9 +9,7 @@ use lib.IntN.{ℤ}
 use lib.ListN.{length, set, get_or, length-append, length-set, get_or-append}
 use lib.Seq.{ext_get_or, get_or-append_seam, get_or-set_same, get_or-set_other}
 use borrow.Author.Tests.{ltb-true, ltb-false, leb-true, le-leb, eqb-true, eqb-false, eq-eqb, ne_eqb}
-use lib.Pointwise.{pointwise}
-use Rattle.std.proofs.Common.{nat_eq, take, length-take-le, get_or-take}
-use Rattle.std.specs.Cmp.Lexicographic.{other_text, same_text}
+use Rattle.std.proofs.Common.{take, length-take-le, get_or-take}
 use Rattle.lines.specs.declared.Numeral.TheVariants.{Empty}
 use Rattle.lines.specs.declared.Word.{Word}
 use Rattle.lines.specs.Lines.{Lined, is_empty, is_word, line_from, line_more, line_start, lined, number_more, numbered, same_below, with_numbers, word_more}
@@ -127,32 +125,11 @@ same_all zero bs cs f = refl
 same_all (suc n) bs cs f =
     rw (same_all n bs cs (λ i h. f i (omega (arith, h))), eq-eqb (get_or bs n 0) (get_or cs n 0) (f n (omega arith)))
 
--- the test by which `is_word` compares the bytes
-pub word_test : (n : ℕ) (bs cs : List ℕ) → n ≤ length bs → pointwise nat_eq (take n bs) cs ≡ (eqb n (length cs) && same_below n bs cs)
-word_test n bs cs h = by (pointwise nat_eq (take n bs) cs) refl
-  where
-    long : length (take n bs) ≡ n
-    long = length-take-le n bs h
-
-    of_equal : take n bs ≡ cs → (eqb n (length cs) && same_below n bs cs) ≡ true
-    of_equal e =
-        let l : n ≡ length cs = sym long ∙ ap length e in
-        rw (eq-eqb n (length cs) l) (same_all n bs cs (λ i k. sym (get_or-take n bs i 0 k) ∙ ap (λ l. get_or l i 0) e))
-
-    to_equal : (eqb n (length cs) && same_below n bs cs) ≡ true → take n bs ≡ cs
-    to_equal e =
-        let l = eqb-true n (length cs) (and_left (eqb n (length cs)) (same_below n bs cs) e) in
-        let q = and_right (eqb n (length cs)) (same_below n bs cs) e in
-        ext_get_or 0 (take n bs) cs (long ∙ l)
-        (λ i k. let j : i < n = omega (arith, k, long) in get_or-take n bs i 0 j ∙ same_at n bs cs q i j)
-
-    other : (u : Bool) → (u ≡ true → ⊥) → false ≡ u
-    other true d = absurd (d refl)
-    other false d = refl
-
-    by : (t : Bool) → pointwise nat_eq (take n bs) cs ≡ t → t ≡ (eqb n (length cs) && same_below n bs cs)
-    by true e = sym (of_equal (same_text (take n bs) cs (sym e)))
-    by false e = other _ (λ d. other_text (take n bs) cs (sym e) (to_equal d))
+-- the bytes in use are the word
+pub bytes_are_word : (w : Word) (v : List ℕ) → w.len ≤ 8 → w.len ≤ length w.bytes → v ≡ take w.len w.bytes → is_word w v ≡ true
+bytes_are_word w v h k e =
+    rw (le-leb w.len 8 h, e, eq-eqb w.len (length (take w.len w.bytes)) (sym (length-take-le w.len w.bytes k)))
+    (same_all w.len w.bytes (take w.len w.bytes) (λ i l. sym (get_or-take w.len w.bytes i 0 l)))
 
 spelled_is : {w : Word} {p : List ℕ} (v : List ℕ) → Spelled w p → is_word w v ≡ true → p ≡ v
 spelled_is {w} {p} v s e =

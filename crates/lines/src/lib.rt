@@ -3,7 +3,7 @@
 
 mod fitting;
 
-ghost use Rattle.std.specs.Prelude.{◌≡◌, true, false, ◌≤◌, length};
+ghost use Rattle.std.specs.Prelude.{◌≡◌, true, false, ◌≤◌, ◌<◌, length, MatchOption};
 ghost use Rattle.lines.specs.Integers.{is_digit};
 ghost use Rattle.lines.specs.Numerals.{grown, numeral_more, numeral_integer};
 ghost use Rattle.lines.specs.Lines.{FedBy, Within, is_empty, is_word, line_more, line_start, line_whole, lined, number_more, number_whole, numbered, word_more};
@@ -111,11 +111,13 @@ fn word_more(w: Word, b: u8) -> Word
     Word { bytes, len: 9 }
 }
 
-// Whether a line's word is this one.
-pub fn is_word(w: Word, word: &[u8]) -> bool
-    ensures { result ≡ is_word w word.now }
-{
-    w.len <= 8 && &w.bytes[..w.len] == word
+impl Word {
+    // Its bytes, if they are at most 8.
+    pub fn text(&self) -> Option<&[u8]>
+        ensures { MatchOption result (8 < self.now.len) (λ bytes. is_word self.now bytes.now ≡ true) }
+    {
+        self.bytes.get(..self.len)
+    }
 }
 
 // How many integers of a line are kept, whether all could be read and kept, and the token that follows them.

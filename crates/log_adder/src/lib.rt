@@ -62,13 +62,7 @@ pub fn infos(c: ColumnInfo<'_>) -> [LinearInfo; 15]
     requires { ColumnSized c }
     ensures { (take (length c.entry.own.now + 3) result ≡ column_infos c.entry) × AllSmall result }
 {
-    let none = LinearInfo {
-        weight: 0,
-        falling: false,
-        first: Lit(0),
-        count: 0,
-    };
-    let mut ts = [none; 15];
+    let mut ts = [LinearInfo::default(); 15];
     for (i, l) in c.own.iter().enumerate() {
         ts[i] = lit_info(false, *l);
     }
@@ -88,7 +82,8 @@ pub fn push_column(set: &mut ClauseSet<'_>, c: ColumnInfo<'_>)
     let high = c.own.len() as u64 + c.carry.count as u64;
     let total = high + 2 * c.next.count as u64 + 1;
     let above = c.bit as u64 + high;
-    mixed::encode_linear_eq_mixed_from_info(set, infos(c), c.own.len() + 3, above, 0, total);
+    let n = c.own.len() + 3;
+    mixed::encode_linear_eq_mixed_from_info(set, &infos(c)[..n], above, 0, total);
 }
 
 // The columns of an adder: each one's own literals, of which the first twelve are stored, and how many they are.

@@ -63,7 +63,8 @@ pub fn push_eq_column(set: &mut ClauseSet<'_>, c: ColumnInfo<'_>, x: u32, y: u32
     let high = c.own.len() as u64 + c.carry.count as u64;
     let total = high + 2 * c.next.count as u64;
     let above = x as u64 + high;
-    mixed::encode_linear_eq_mixed_from_info(set, infos(c), c.own.len() + 2, above, y as u64, total);
+    let n = c.own.len() + 2;
+    mixed::encode_linear_eq_mixed_from_info(set, &infos(c)[..n], above, y as u64, total);
 }
 
 // The greatest height of a column that the adder reaches; a dead end is the last that is reached.

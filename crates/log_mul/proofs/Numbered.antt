@@ -7,7 +7,8 @@ use native.Mathlib.Numerals.{add-one, sub-one}
 use native.Mathlib.Omega.{arith}
 use lib.ListN.{length, get_or, length-set, set, take}
 use lib.Seq.{take-suc-set}
-use Rattle.sat.specs.LitArray.{first_lits, lit, num}
+use Rattle.sat.specs.LitArray.{lit, num}
+use Rattle.log_linear.specs.Added.{bits_of}
 use Rattle.arithmetic.specs.Bits.{shl}
 use Rattle.sat.specs.Encoded.{EncodedBits}
 use Rattle.sat.specs.Fresh.{fresh}
@@ -139,18 +140,18 @@ multiplier_numbered xs ys v =
 
 -- One bit ----------------------------------------------------------------------------------------------------------------
 
-pub bit_added : (own : ℕ) (s : BitsState) (l : Lit) → length s.lits ≡ 32 → s.len < 32 → s.vars ≤ 2 ^ 29 → s.carry ≤ 144 → own ≤ 144
+pub bit_added : (own : ℕ) (s : BitsState) (l : Lit) → length s.bits.lits ≡ 32 → s.bits.len < 32 → s.vars ≤ 2 ^ 29 → s.carry ≤ 144 → own ≤ 144
     → l.0 ≡ 2 * (s.vars + (own + s.carry) / 2)
-    → BitAdded own s (record { lits = set s.lits s.len l; len = s.len + 1; vars = s.vars + (own + s.carry) / 2 + 1; carry = (own + s.carry) / 2 })
+    → BitAdded own s (record { bits = record { lits = set s.bits.lits s.bits.len l; len = s.bits.len + 1 }; vars = s.vars + (own + s.carry) / 2 + 1; carry = (own + s.carry) / 2 })
 bit_added own s l long h a b k e =
-    let n : s.len < length s.lits = omega arith in
+    let n : s.bits.len < length s.bits.lits = omega arith in
     record {
-      bits = rw (add-one s.len, take-suc-set s.lits s.len l n, map-append num (take s.len s.lits) (l ∷ []), e);
+      bits = rw (add-one s.bits.len, take-suc-set s.bits.lits s.bits.len l n, map-append num (take s.bits.len s.bits.lits) (l ∷ []), e);
       len = refl;
       vars = omega arith;
       carry = refl;
-      long = length-set s.lits s.len l ∙ long;
-      small = λ z. every_set (lit 0) (λ (x : Lit). x.0 < 2147483647) s.lits s.len l z (omega arith);
+      long = length-set s.bits.lits s.bits.len l ∙ long;
+      small = λ z. every_set (lit 0) (λ (x : Lit). x.0 < 2147483647) s.bits.lits s.bits.len l z (omega arith);
     }
 
 -- The loops --------------------------------------------------------------------------------------------------------------
@@ -163,7 +164,7 @@ module _ {all : List Reached} {v : ℕ} where
   pub bits_turn : (r : Reached) (left : List Reached) (own : ℕ) (s t : BitsState) → own ≤ 144 → r.next ≡ (own + s.carry) / 2 → BitsLeft all v (r ∷ left) s → BitAdded own s t → BitsLeft all v left t
   bits_turn r left own s t h e l a =
       let n : ℕ = (own + s.carry) / 2 in
-      let so_far : List ℕ = first_lits s.lits s.len in
+      let so_far : List ℕ = bits_of s.bits in
       let c = l.carry in
       record {
         bits = l.bits ∙ (λ i. so_far ++ (2 * (s.vars + e i) ∷ numbered left (suc (s.vars + e i))))
@@ -192,10 +193,10 @@ module _ {all : List Reached} {v : ℕ} where
           left_as (λ i. reached_past (sym (sub-one (suc f)) i) (sym w i)) (bits_turn r (reached_past f r.next) 0 s t (omega arith) (sym n) l a)
 
   -- some column is left where there is a carry
-  pub past_some : (f : ℕ) (s : BitsState) → 0 < s.carry → s.carry ≤ f → BitsLeft all v (reached_past f s.carry) s → s.len < length all
+  pub past_some : (f : ℕ) (s : BitsState) → 0 < s.carry → s.carry ≤ f → BitsLeft all v (reached_past f s.carry) s → s.bits.len < length all
   past_some f s z h l = go f s.carry h z l.len
     where
-      go : (f c : ℕ) → c ≤ f → 0 < c → s.len + length (reached_past f c) ≡ length all → s.len < length all
+      go : (f c : ℕ) → c ≤ f → 0 < c → s.bits.len + length (reached_past f c) ≡ length all → s.bits.len < length all
       go zero c h z e = absurd (omega arith)
       go (suc f) zero h z e = absurd (omega arith)
       go (suc f) (suc k) h z e = omega arith
@@ -218,7 +219,10 @@ pub past_again : {all : List Reached} {v : ℕ} (s t : BitsState) → 0 < s.carr
 past_again s t z l a =
     record { fuel = l.fuel - 1; enough = omega (arith, l.enough, a.carry); left = past_turn l.fuel s t z l.enough l.left a }
 
-module _ (counts : List ℕ) (width v : ℕ) where
+module _ (counts : List ℕ) (v : ℕ) where
+  abbrev width : ℕ
+  width = length counts
+
   abbrev all· : List Reached
   all· = reached (input_shapes width 0 counts 0) 0
 
@@ -233,7 +237,7 @@ module _ (counts : List ℕ) (width v : ℕ) where
   shapes_step zero i c h = absurd (not-suc-le-zero h)
   shapes_step (suc w) i c h = rw (sub-one (suc w))
 
-  pub columns_start : (lits : List Lit) → length lits ≡ 32 → AllSmall lits → ColumnsLeft (record { lits = lits; len = 0; vars = v; carry = 0 }) 0
+  pub columns_start : (lits : List Lit) → length lits ≡ 32 → AllSmall lits → ColumnsLeft (record { bits = record { lits = lits; len = 0 }; vars = v; carry = 0 }) 0
   columns_start lits l z =
       record {
         within = omega arith;
@@ -255,7 +259,7 @@ module _ (counts : List ℕ) (width v : ℕ) where
       }
 
   -- a column is left
-  pub columns_some : (s : BitsState) (i : ℕ) → i < width → ColumnsLeft s i → s.len < length all·
+  pub columns_some : (s : BitsState) (i : ℕ) → i < width → ColumnsLeft s i → s.bits.len < length all·
   columns_some s i h l =
       let e = ap length (shapes_step (width - i) i s.carry (omega arith)) in
       omega (arith, l.left.len)
@@ -268,13 +272,13 @@ module _ (counts : List ℕ) (width v : ℕ) where
 -- The product's bits -----------------------------------------------------------------------------------------------------
 
 pub product_numbered : (x y v : ℕ) → x ≤ 12 → y ≤ 12 → (s : BitsState) (all : List Reached) → all ≡ multiplier_reached x y 0 → BitsLeft all (v + x * y) [] s
-    → ProductNumbered x y v (record { bits = record { lits = s.lits; len = s.len }; vars = s.vars })
+    → ProductNumbered x y v (record { bits = s.bits; vars = s.vars })
 product_numbered x y v h k s all e l =
     let few = multiplier_few x y h k in
     let n = ap length e in
     let g = gates_most x y k h in
     record {
-      bits = λ xs ys p q. sym (append-nil (first_lits s.lits s.len)) ∙ sym l.bits ∙ (λ i. numbered (e i) (v + x * y)) ∙ (λ i. numbered (multiplier_reached (sym p i) (sym q i) 0) (v + sym p i * sym q i))
+      bits = λ xs ys p q. sym (append-nil (bits_of s.bits)) ∙ sym l.bits ∙ (λ i. numbered (e i) (v + x * y)) ∙ (λ i. numbered (multiplier_reached (sym p i) (sym q i) 0) (v + sym p i * sym q i))
           ∙ sym (multiplier_numbered xs ys v).bits;
       vars = λ xs ys p q. sym l.same_vars ∙ (λ i. numbered_vars (e i) (v + x * y)) ∙ (λ i. numbered_vars (multiplier_reached (sym p i) (sym q i) 0) (v + sym p i * sym q i))
           ∙ sym (multiplier_numbered xs ys v).vars;

@@ -3,37 +3,34 @@ use mathlib.Core.Path.{◌≡◌, refl, ap, sym, ◌∙◌}
 use mathlib.Core.Bool.{false}
 use mathlib.Core.List.{List, [], ◌∷◌, map, map-append}
 use Prim.Native.Nat.{ℕ, suc, zero, max, ◌+◌, ◌-◌, ◌*◌, ◌≤◌, ◌<◌}
-use native.Mathlib.Nat.{not-suc-le-zero, sub-zero}
+use native.Mathlib.Nat.{mul-one, not-suc-le-zero, sub-zero}
 use native.Mathlib.Numerals.{add-one, sub-one}
 use native.Mathlib.Omega.{arith}
 use lib.ListN.{length, drop, get_or, length-map, set, take}
 use lib.Seq.{take-suc-set}
 use Rattle.sat.specs.LitArray.{first_lits, num}
-use Rattle.sat.specs.Clause.{Clauses}
 use Rattle.sat.specs.Encoded.{EncodedBits}
 use Rattle.sat.specs.Fresh.{fresh}
 use Rattle.sat.specs.declared.Lit.{Lit}
 use Rattle.sat.proofs.Fresh.{fresh_last, length_fresh}
-use Rattle.clause_set.specs.Stores.{add_clauses, after}
-use Rattle.clause_set.specs.declared.Counts.{Counts}
-use Rattle.clause_set.proofs.Adding.{add_append}
+use Rattle.clause_set.specs.Stores.{Added, AddedRule}
+use Rattle.clause_set.specs.declared.ClauseSet.{ClauseSet}
+use Rattle.clause_set.proofs.Writing.{wrote_as, wrote_then}
 use Rattle.log_encoding.specs.Adder.{AdderColumn, adder}
-use Rattle.log_adder.specs.AdderState.{AdderAdded, Outcome, input_columns, then}
+use Rattle.log_adder.specs.AdderState.{AdderAdded, adder_output, input_columns}
 use Rattle.log_encoding.specs.Gather.{Grid, pad_columns, push_value}
 use Rattle.log_encoding.specs.AdderSize.{ColumnShape, column_shape, input_shapes, own_counts, pad_shapes, push_counts, reached, too_tall}
-use Rattle.log_adder.specs.declared.AdderState.{AdderState}
+use Rattle.log_adder.specs.declared.Columns.{Columns}
+use Rattle.log_adder.proofs.Taken.{shapes_taken}
 use Rattle.log_encoding.proofs.AdderSize.{pad_columns_shapes, push_value_counts}
 use Rattle.log_gather.specs.Arrays.{Arrays, Few, Holds, Pushed, grid_columns}
 use Rattle.log_gather.proofs.Widths.{columns_grid}
-use Rattle.log_linear.specs.Added.{add_rule, bits_of, rule_outcome}
+use Rattle.log_linear.specs.Added.{bits_of}
 use Rattle.log_encoding.specs.Compare.{none_of}
 use Rattle.log_linear.specs.declared.Bits.{Bits}
-use Rattle.log_linear.specs.declared.RuleCounts.{RuleCounts}
-use Rattle.log_linear.proofs.Literals.{lits_long}
-use Rattle.log_mul.specs.Added.{MultiplierAdded, RowsAdded, RowsGathered, rows_of}
+use Rattle.log_mul.specs.Added.{MultiplierAdded, RowsGathered, RowsWritten, rows_of}
 use Rattle.log_encoding.specs.Multiply.{multiplier, product, rows, rows_grid, rows_vars}
 use Rattle.log_encoding.specs.MulSize.{multiplier_reached, rows_counts}
-use Rattle.log_mul.specs.declared.Multiplied.{Multiplied}
 use Rattle.log_mul.proofs.Rows.{gates_most}
 
 -- Consecutive literals -----------------------------------------------------------------------------------------------
@@ -59,41 +56,37 @@ rows_none (suc x) y o v grid h = absurd (not-suc-le-zero h)
 
 module _ (x y v₀ : ℕ) where
   -- i rows are in a grid, to which the others add what all add to none
-  pub record Gathering (cols : List (List Lit)) (counts : List ℕ) (v i : ℕ) : Type 0 where
-    pub within : i ≤ x
+  pub record Gathering (c : Columns) (v i : ℕ) : Type 0 where
     pub vars : v ≡ v₀ + y * i
-    pub arrays : Arrays cols counts
-    pub few : Few (y * i) counts
+    pub arrays : Arrays c
+    pub few : Few (y * i) c
     pub grid : Grid
-    pub holds : Holds cols counts grid
+    pub holds : Holds c grid
     pub same : rows_of x y 0 v₀ [] ≡ rows_of (x - i) y i v grid
 
-  pub gathering_start : (cols : List (List Lit)) (counts : List ℕ) → Arrays cols counts → Few 0 counts → Holds cols counts [] → Gathering cols counts v₀ 0
-  gathering_start cols counts z b h =
-      record { within = omega arith; vars = omega arith; arrays = z; few = λ i. let r = b i in omega arith; grid = []; holds = h; same = rw (sub-zero x) }
+  pub gathering_start : (c : Columns) → Arrays c × Few 0 c × Holds c [] → Gathering c v₀ 0
+  gathering_start c z =
+      record { vars = omega arith; arrays = z.0; few = λ i. let r = z.1 i in omega arith; grid = []; holds = z.2; same = rw (sub-zero x) }
 
-  module _ {cols : List (List Lit)} {counts : List ℕ} {v i : ℕ} (g : Gathering cols counts v i) where
-    pub gathering_few : i ≤ 12 → y ≤ 12 → (m : ℕ) → 144 ≤ m → Few m counts
+  module _ {c : Columns} {v i : ℕ} (g : Gathering c v i) where
+    pub gathering_few : i ≤ 12 → y ≤ 12 → (m : ℕ) → 144 ≤ m → Few m c
     gathering_few h k m l j = let r = g.few j in let z = gates_most y i h k in omega arith
 
-    pub gathering_turn : i < x → (cols₁ : List (List Lit)) (counts₁ ls : List ℕ) → ls ≡ fresh y v → Pushed y cols counts (push_value i ls) cols₁ counts₁
-        → Gathering cols₁ counts₁ (v + y) (i + 1)
-    gathering_turn h cols₁ counts₁ ls e p =
+    pub gathering_turn : i < x → (d : Columns) (ls : List ℕ) (n : ℕ) → ls ≡ fresh y v → n ≡ y → Pushed (n * 1) c (push_value i ls) d → Gathering d (v + y) (i + 1)
+    gathering_turn h d ls n e long p =
         let j : x - i - 1 ≡ x - (i + 1) = omega arith in
-        let n : y * (i + 1) ≡ y * i + y = omega arith in
+        let more : y * (i + 1) ≡ y * i + n * 1 = omega (arith, mul-one n) in
         record {
-          within = omega arith;
           vars = omega (arith, g.vars);
           arrays = p.arrays;
-          few = rw n (p.few (y * i) g.few);
+          few = rw more (p.few (y * i) g.few);
           grid = push_value i ls g.grid;
           holds = p.holds g.grid g.holds;
           same = g.same ∙ rows_step (x - i) y i v g.grid (omega arith) ∙ (λ k. rows_of (j k) y (i + 1) (v + y) (push_value i (sym e k) g.grid));
         }
 
-    pub gathering_end : x ≤ i → x ≤ 12 → y ≤ 12 → RowsGathered x y v₀ cols counts
+    pub gathering_end : x ≡ i → x ≤ 12 → y ≤ 12 → RowsGathered x y v₀ c
     gathering_end h a b =
-        let w = g.within in
         let n : x - i ≤ 0 = omega arith in
         record {
           arrays = g.arrays;
@@ -160,7 +153,7 @@ grid_pad g (suc n) (c ∷ gs) i (suc w) f e =
     let r = grid_pad g n gs (i + 1) w (λ j. ap (λ (k : ℕ). get_or g k []) (omega arith) ∙ f (suc j)) (omega arith) in
     λ k. record { own = a k; constant = 0 } ∷ r k
 
-module _ {x y v : ℕ} {cols : List (List Lit)} {counts : List ℕ} (g : RowsGathered x y v cols counts) (given w : ℕ)
+module _ {x y v : ℕ} {cols : Columns} (g : RowsGathered x y v cols) (given w : ℕ)
     (wide : w ≡ length (pad_shapes given (rows_counts x y 0 []))) (few : w ≤ 23) where
   abbrev grid : Grid
   grid = rows_of x y 0 v []
@@ -173,7 +166,7 @@ module _ {x y v : ℕ} {cols : List (List Lit)} {counts : List ℕ} (g : RowsGat
       grid_pad grid given grid 0 w (λ j. ap (λ (k : ℕ). get_or grid k []) (omega arith))
       (wide ∙ ap length (sym padded) ∙ length-map (pad_columns given grid) column_shape)
 
-  shapes_from : (n i : ℕ) → i + n ≤ 32 → input_shapes n i counts 0 ≡ map column_shape (grid_columns n i grid 0)
+  shapes_from : (n i : ℕ) → i + n ≤ 32 → input_shapes n i cols.counts 0 ≡ map column_shape (grid_columns n i grid 0)
   shapes_from zero i h = refl
   shapes_from (suc n) i h =
       let a = g.holds.count i (omega arith) in
@@ -181,54 +174,50 @@ module _ {x y v : ℕ} {cols : List (List Lit)} {counts : List ℕ} (g : RowsGat
       λ j. record { own = a j; constant = 0 } ∷ r j
 
   -- the columns reached are the definition's
-  pub multiplier_reaches : reached (input_shapes w 0 counts 0) 0 ≡ multiplier_reached x y given
+  pub multiplier_reaches : reached (input_shapes w 0 cols.counts 0) 0 ≡ multiplier_reached x y given
   multiplier_reaches = ap (λ (cs : List ColumnShape). reached cs 0) (shapes_from w 0 (omega arith) ∙ ap (map column_shape) as_wide ∙ padded)
 
-  pub multiplier_columns : too_tall (multiplier_reached x y given) ≡ false → input_columns w 0 cols counts 0 ≡ pad_columns given grid
-  multiplier_columns t = columns_grid cols counts grid g.holds w 0 0 0 (omega arith) (ap too_tall multiplier_reaches ∙ t) ∙ as_wide
+  -- of the counts as a slice
+  pub slice_reaches : (counts : List ℕ) → (counts ≡ take w cols.counts) × (length counts ≡ w) → reached (input_shapes (length counts) 0 counts 0) 0 ≡ multiplier_reached x y given
+  slice_reaches counts e =
+      ap (λ (cs : List ℕ). reached (input_shapes (length cs) 0 cs 0) 0) e.0 ∙ ap (λ (cs : List ColumnShape). reached cs 0) (shapes_taken cols.counts w 0 (omega (arith, g.arrays.places)))
+      ∙ multiplier_reaches
+
+  multiplier_columns : too_tall (multiplier_reached x y given) ≡ false → input_columns w 0 cols.lits cols.counts 0 ≡ pad_columns given grid
+  multiplier_columns t = columns_grid cols grid g.holds w 0 0 0 (omega arith) (ap too_tall multiplier_reaches ∙ t) ∙ as_wide
 
 -- The multiplier ------------------------------------------------------------------------------------------------------
 
-module _ (x y m : Bits) (v : ℕ) (a : Counts) (xl : x.len ≤ length x.lits) (yl : y.len ≤ length y.lits) (ml : m.len ≤ length m.lits) {cols : List (List Lit)} {counts : List ℕ}
-    (g : RowsGathered x.len y.len v cols counts) (w : ℕ)
-    (wide : w ≡ length (pad_shapes m.len (rows_counts x.len y.len 0 []))) (few : w ≤ 23)
-    (t : too_tall (multiplier_reached x.len y.len m.len) ≡ false) where
+module _ (x y m : List Lit) (v : ℕ) {cols : Columns} (g : RowsGathered (length x) (length y) v cols) (w : ℕ)
+    (wide : w ≡ length (pad_shapes (length m) (rows_counts (length x) (length y) 0 []))) (few : w ≤ 23)
+    (t : too_tall (multiplier_reached (length x) (length y) (length m)) ≡ false) where
   abbrev columns : List AdderColumn
-  columns = pad_columns (length (bits_of m)) (rows_grid (bits_of x) (bits_of y) 0 v [])
+  columns = pad_columns (length (map num m)) (rows_grid (map num x) (map num y) 0 v [])
 
-  columns_are : input_columns w 0 cols counts 0 ≡ columns
+  columns_are : input_columns w 0 cols.lits cols.counts 0 ≡ columns
   columns_are =
-      multiplier_columns g m.len w wide few t
-      ∙ (λ i. pad_columns (sym (lits_long m.lits m.len ml) i) (rows_of (sym (lits_long x.lits x.len xl) i) (sym (lits_long y.lits y.len yl) i) 0 v []))
-      ∙ ap (pad_columns (length (bits_of m))) (sym (rows_grid_of (bits_of x) (bits_of y) 0 v []))
+      multiplier_columns g (length m) w wide few t
+      ∙ (λ i. pad_columns (sym (length-map m num) i) (rows_of (sym (length-map x num) i) (sym (length-map y num) i) 0 v []))
+      ∙ ap (pad_columns (length (map num m))) (sym (rows_grid_of (map num x) (map num y) 0 v []))
 
-  pub multiplier_added : {d e d₁ e₁ d₂ e₂ : List ℕ} (rs : RuleCounts) (r : AdderState)
-      → RowsAdded d e (bits_of x) (bits_of y) v a d₁ e₁ rs
-      → AdderAdded d₁ e₁ cols counts m.lits (record { width = w; constant = 0; given = m.len }) rs.vars rs.used d₂ e₂ r
-      → MultiplierAdded d e (multiplier (bits_of x) (bits_of y) (bits_of m) v) a d₂ e₂ (record { bits = record { lits = r.bits; len = r.len }; vars = r.vars; used = r.used })
-  multiplier_added {d} {e} {d₁} {e₁} {d₂} {e₂} rs r p q =
-      let gates : Clauses = rows (bits_of x) (bits_of y) v in
-      let sum : EncodedBits = adder columns [] (bits_of m) (rows_vars (bits_of x) (bits_of y) v) in
-      let done = q.done ∙ (λ i. then (p.stores i) [] (adder (columns_are i) [] (bits_of m) (p.vars i))) in
-      let s = q.steady in
+  pub multiplier_added : {s s₁ s₂ : ClauseSet} {r : Bits} → s.vars ≡ v → RowsWritten s (map num x) (map num y) s₁
+      → AdderAdded s₁ (adder_output cols m w 0 s₁.vars) s₂ r → MultiplierAdded s (multiplier (map num x) (map num y) (map num m) v) s₂ r
+  multiplier_added {s} {s₁} {s₂} e p q =
+      let sum : adder_output cols m w 0 s₁.vars ≡ adder columns [] (map num m) (rows_vars (map num x) (map num y) v) =
+      λ i. adder (columns_are i) [] (map num m) ((p.wrote.vars_are ∙ ap (rows_vars (map num x) (map num y)) e) i) in
+      let gates = wrote_as p.wrote refl (ap (rows (map num x) (map num y)) e) in
       record {
-        stores = ap (λ (o : Outcome). o.stores) done ∙ sym (add_append 0 gates sum.clauses (after d e a));
-        bits = ap (λ (o : Outcome). o.bits) done;
-        vars = ap (λ (o : Outcome). o.vars) done;
+        wrote = wrote_then gates (wrote_as q.wrote (ap (λ (o : EncodedBits). o.vars) sum) (ap (λ (o : EncodedBits). o.clauses) sum));
+        bits = q.bits_are ∙ ap (λ (o : EncodedBits). o.bits) sum;
         len = q.len;
-        few_lits = omega (arith, q.len, s.lits);
-        few_clauses = omega (arith, q.len, s.clauses);
+        few_lits = omega (arith, q.len, q.lits);
+        few_clauses = omega (arith, q.len, q.clauses);
       }
 
 -- the product: those past m's bits are 0
-pub product_added : (x y m : Bits) (v : ℕ) (a : Counts) → m.len ≤ length m.lits → {d e d₁ e₁ d₂ e₂ : List ℕ} (r : Multiplied) (u : Counts)
-    → MultiplierAdded d e (multiplier (bits_of x) (bits_of y) (bits_of m) v) a d₁ e₁ r
-    → after d₂ e₂ u ≡ add_clauses 0 (none_of (drop m.len (bits_of r.bits))) (after d₁ e₁ r.used)
-    → rule_outcome d₂ e₂ (record { vars = r.vars; used = u }) ≡ add_rule (product (bits_of x) (bits_of y) (bits_of m) v) (after d e a)
-product_added x y m v a ml {d} {e} r u p q =
-    let mul : EncodedBits = multiplier (bits_of x) (bits_of y) (bits_of m) v in
-    let past : Clauses = none_of (drop (length (bits_of m)) mul.bits) in
-    let n : none_of (drop m.len (bits_of r.bits)) ≡ past =
-    λ i. none_of (drop (sym (lits_long m.lits m.len ml) i) (p.bits i)) in
-    let s = q ∙ (λ i. add_clauses 0 (n i) (p.stores i)) ∙ sym (add_append 0 mul.clauses past (after d e a)) in
-    λ i. record { stores = s i; vars = p.vars i }
+pub product_added : (x y m : List Lit) {s t u : ClauseSet} {r : Bits} → MultiplierAdded s (multiplier (map num x) (map num y) (map num m) s.vars) t r
+    → (ls : List ℕ) → ls ≡ drop (length m) (bits_of r) → Added t (none_of ls) u → AddedRule s (product (map num x) (map num y) (map num m) s.vars) u
+product_added x y m {s} p ls e w =
+    let past : none_of ls ≡ none_of (drop (length (map num m)) (multiplier (map num x) (map num y) (map num m) s.vars).bits) =
+    ap none_of (e ∙ (λ i. drop (sym (length-map m num) i) (p.bits i))) in
+    wrote_as (wrote_then p.wrote (wrote_as w refl past)) p.wrote.vars_are refl

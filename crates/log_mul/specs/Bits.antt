@@ -1,6 +1,5 @@
 -- The literals of a sum's bits where no result is given: they follow from the columns reached.
 use Rattle.std.specs.Prelude.{◌+◌, ◌*◌, ◌/◌, ◌≤◌, suc, ℕ, List, [], ◌++◌, ◌∷◌, ◌≡◌, length}
-use Rattle.sat.specs.LitArray.{first_lits}
 use Rattle.log_encoding.specs.AdderSize.{Reached}
 use Rattle.log_gather.specs.Arrays.{AllSmall}
 use Rattle.log_linear.specs.Added.{bits_of}
@@ -21,22 +20,22 @@ numbered_vars (r ∷ rs) v = numbered_vars rs (suc (v + r.next))
 
 -- a column's bit, after those so far
 pub record BitAdded (own : ℕ) (s r : BitsState) : Type 0 where
-  pub bits : first_lits r.lits r.len ≡ first_lits s.lits s.len ++ (2 * (s.vars + (own + s.carry) / 2) ∷ [])
-  pub len : r.len ≡ s.len + 1
+  pub bits : bits_of r.bits ≡ bits_of s.bits ++ (2 * (s.vars + (own + s.carry) / 2) ∷ [])
+  pub len : r.bits.len ≡ s.bits.len + 1
   pub vars : r.vars ≡ suc (s.vars + (own + s.carry) / 2)
   pub carry : r.carry ≡ (own + s.carry) / 2
-  pub long : length r.lits ≡ 32
-  pub small : AllSmall s.lits → AllSmall r.lits
+  pub long : length r.bits.lits ≡ 32
+  pub small : AllSmall s.bits.lits → AllSmall r.bits.lits
 
 -- the bits so far, with those of the columns left, are those of all
 pub record BitsLeft (all : List Reached) (v : ℕ) (left : List Reached) (s : BitsState) : Type 0 where
-  pub bits : numbered all v ≡ first_lits s.lits s.len ++ numbered left s.vars
+  pub bits : numbered all v ≡ bits_of s.bits ++ numbered left s.vars
   pub same_vars : numbered_vars all v ≡ numbered_vars left s.vars
-  pub len : s.len + length left ≡ length all
-  pub vars : s.vars ≤ v + 145 * s.len
+  pub len : s.bits.len + length left ≡ length all
+  pub vars : s.vars ≤ v + 145 * s.bits.len
   pub carry : s.carry ≤ 144
-  pub long : length s.lits ≡ 32
-  pub small : AllSmall s.lits
+  pub long : length s.bits.lits ≡ 32
+  pub small : AllSmall s.bits.lits
 
 -- the bits of a product of x by y bits from variable v on, whatever the literals of x and y are
 pub record ProductNumbered (x y v : ℕ) (r : ProductBits) : Type 0 where

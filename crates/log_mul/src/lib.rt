@@ -2,33 +2,23 @@
 // only counts.
 #![tactic(auto)]
 
-ghost use Rattle.std.specs.Prelude.{◌≡◌, [], ◌+◌, ◌*◌, ◌^◌, ◌≤◌, ◌<◌, length, map, replicate};
-ghost use Rattle.sat.specs.LitArray.{first_lits};
+ghost use Rattle.std.specs.Prelude.{◌≡◌, [], ◌+◌, ◌*◌, ◌^◌, ◌≤◌, ◌<◌, get_or, length, map};
 ghost use Rattle.sat.specs.Fresh.{fresh};
 ghost use Rattle.sat.specs.LitArray.{num};
-ghost use Rattle.clause_set.specs.Stores.{Added, Below, Wrote, after};
+ghost use Rattle.clause_set.specs.Stores.{Added, AddedRule, Below, Wrote};
 ghost use Rattle.log_adder.specs.ColumnInfo.{AllLow};
 ghost use Rattle.log_encoding.specs.AdderSize.{greatest_height, input_shapes, pad_shapes, reached};
-ghost use Rattle.log_gather.specs.Arrays.{Few};
-ghost use Rattle.log_linear.specs.Added.{add_rule, bits_of, rule_outcome};
+ghost use Rattle.log_linear.specs.Added.{bits_of};
 ghost use Rattle.log_mul.specs.Bits.{BitAdded, BitsLeft, ProductNumbered};
-ghost use Rattle.log_mul.specs.Added.{MultiplierAdded, MultiplierReady, RowsAdded, RowsGathered, RowsWritten};
+ghost use Rattle.log_mul.specs.Added.{MultiplierAdded, MultiplierReady, RowsGathered, RowsWritten};
 ghost use Rattle.log_encoding.specs.Multiply.{and_gate, multiplier, product, row};
 ghost use Rattle.log_encoding.specs.MulSize.{multiplier_reached, rows_counts};
 
-use clause_set::{ClauseSet, Counts};
-use log_adder::{AdderInput, greatest_height, log_encoding_adder};
-use log_gather::{larger, no_columns, push_scaled};
-use log_linear::{Bits, RuleCounts, none_of};
+use clause_set::ClauseSet;
+use log_adder::{Columns, greatest_height, log_encoding_adder};
+use log_gather::{no_columns, push_scaled};
+use log_linear::{Bits, none_of};
 use sat::{Lit, Var};
-
-// The bits of a product, and the counts of variables and of the stores after its clauses.
-#[derive(Clone, Copy)]
-pub struct Multiplied {
-    pub bits: Bits,
-    pub vars: u32,
-    pub used: Counts,
-}
 
 // The literals of a product's bits, and the variables counted after it.
 #[derive(Clone, Copy)]
@@ -39,11 +29,10 @@ pub struct ProductBits {
 
 // The literals of a sum's bits so far, the variables counted, and how many the carry has.
 #[derive(Clone, Copy)]
-pub struct BitsState {
-    pub lits: [Lit; 32],
-    pub len: usize,
-    pub vars: u32,
-    pub carry: u32,
+struct BitsState {
+    bits: Bits,
+    vars: u32,
+    carry: u32,
 }
 
 // m is x and y.
@@ -77,63 +66,29 @@ fn push_all_rows(set: &mut ClauseSet<'_>, xs: &[Lit], ys: &[Lit])
     }
 }
 
-// The same into stores that are no set yet.
-fn push_rows(
-    lits: &mut [u32],
-    ends: &mut [u32],
-    x: Bits,
-    y: Bits,
-    vars: u32,
-    at: Counts,
-) -> RuleCounts
-    requires { (x.len ≤ 12) × (y.len ≤ 12) × (vars ≤ 1000000) × (at.lits ≤ 2 ^ 29) × (at.clauses ≤ 2 ^ 29) }
-    ensures { RowsAdded lits.old ends.old (bits_of x) (bits_of y) vars at lits.new ends.new result }
-{
-    let mut set = ClauseSet {
-        lits,
-        ends,
-        base: 0,
-        vars,
-        used: at,
-    };
-    push_all_rows(&mut set, x.as_slice(), y.as_slice());
-    RuleCounts {
-        vars: set.vars,
-        used: set.used,
-    }
-}
-
 // The literals of n consecutive variables.
-fn consecutive(v: u32, n: usize) -> [Lit; 32]
+fn consecutive(v: u32, n: usize) -> Bits
     requires { (n ≤ 32) × (v ≤ 2 ^ 29) }
-    ensures { (first_lits result n ≡ fresh n v) × AllLow result }
+    ensures { (bits_of result ≡ fresh n v) × (result.len ≡ n) × AllLow result.lits }
 {
-    let mut out = [Lit(0); 32];
-    let mut w = v;
-    let mut j: usize = 0;
-    while j < n {
-        let new = Var(w);
-        out[j] = new.as_lit(false);
-        w += 1;
-        j += 1;
+    let mut lits = [Lit(0); 32];
+    for j in 0..n {
+        lits[j] = Var(v + j as u32).as_lit(false);
     }
-    out
+    Bits { lits, len: n }
 }
 
 // The rows of x by y bits in columns, row i from column i on; their variables are consecutive.
-fn gather_rows(x: usize, y: usize, vars: u32, counts: &mut [u32; 32]) -> [[Lit; 12]; 32]
-    requires { (x ≤ 12) × (y ≤ 12) × (vars ≤ 1000000) × (counts.old ≡ replicate 32 0) }
-    ensures { RowsGathered x y vars result counts.new }
+fn gather_rows(x: usize, y: usize, vars: u32) -> Columns
+    requires { (x ≤ 12) × (y ≤ 12) × (vars ≤ 1000000) }
+    ensures { RowsGathered x y vars result }
 {
     let mut cols = no_columns();
     let mut v = vars;
-    let mut i: usize = 0;
-    while i < x {
+    for i in 0..x {
         let row = consecutive(v, y);
-        let next = push_scaled(cols, counts, row, y, 1, i, 1);
-        cols = next;
+        push_scaled(&mut cols, row.as_slice(), 1, i, 1);
         v += y as u32;
-        i += 1;
     }
     cols
 }
@@ -146,7 +101,7 @@ fn multiplier_width(x: usize, y: usize, given: usize) -> usize
     if x == 0 {
         return given;
     }
-    larger(x - 1 + y, given)
+    (x - 1 + y).max(given)
 }
 
 // The greatest height of a column that the multiplier of x by y bits reaches.
@@ -154,48 +109,47 @@ pub fn multiplier_height(x: usize, y: usize, given: usize) -> u32
     requires { (x ≤ 12) × (y ≤ 12) × (given ≤ 12) }
     ensures { result ≡ greatest_height (multiplier_reached x y given) }
 {
-    let mut counts = [0u32; 32];
-    gather_rows(x, y, 0, &mut counts);
+    let cols = gather_rows(x, y, 0);
     let width = multiplier_width(x, y, given);
-    greatest_height(counts, width, 0)
+    greatest_height(cols.first_counts(width), 0)
 }
 
 // The next bit of a sum, of a column with so many own literals: its carry's variables come first.
 fn next_bit(s: BitsState, own: u32) -> BitsState
-    requires { (s.len < 32) × (s.vars ≤ 2 ^ 29) × (s.carry ≤ 144) × (own ≤ 144) }
+    requires { (s.bits.len < 32) × (s.vars ≤ 2 ^ 29) × (s.carry ≤ 144) × (own ≤ 144) }
     ensures { BitAdded own s result }
 {
     let next = (own + s.carry) / 2;
     let v = s.vars + next;
-    let new = Var(v);
-    let len = s.len;
-    let mut lits = s.lits;
-    lits[len] = new.as_lit(false);
+    let len = s.bits.len;
+    let mut lits = s.bits.lits;
+    lits[len] = Var(v).as_lit(false);
     BitsState {
-        lits,
-        len: len + 1,
+        bits: Bits { lits, len: len + 1 },
         vars: v + 1,
         carry: next,
     }
 }
 
 // The literals of a sum's bits where none is given, and the variables after them: they follow from the columns' counts.
-fn sum_bits(counts: [u32; 32], width: usize, vars: u32) -> BitsState
-    requires { (width ≤ 23) × (vars ≤ 2 ^ 28) × Few 144 counts × (length (reached (input_shapes width 0 counts 0) 0) ≤ 24) }
-    ensures { BitsLeft (reached (input_shapes width 0 counts 0) 0) vars [] result }
+fn sum_bits(counts: &[u32], vars: u32) -> BitsState
+    requires counts { (length counts.now ≤ 23) × ((i : _) → get_or counts.now i 0 ≤ 144) }
+    requires vars_bound { vars ≤ 2 ^ 28 }
+    requires few { length (reached (input_shapes (length counts.now) 0 counts.now 0) 0) ≤ 24 }
+    ensures { BitsLeft (reached (input_shapes (length counts.now) 0 counts.now 0) 0) vars [] result }
 {
     let mut s = BitsState {
-        lits: [Lit(0); 32],
-        len: 0,
+        bits: Bits {
+            lits: [Lit(0); 32],
+            len: 0,
+        },
         vars,
         carry: 0,
     };
-    let mut i: usize = 0;
-    while i < width {
-        s = next_bit(s, counts[i]);
-        i += 1;
+    for own in counts {
+        s = next_bit(s, *own);
     }
-    while 0 < s.carry {
+    while s.carry > 0 {
         s = next_bit(s, 0);
     }
     s
@@ -206,76 +160,32 @@ pub fn product_bits(x: usize, y: usize, vars: u32) -> ProductBits
     requires { (x ≤ 12) × (y ≤ 12) × (vars ≤ 1000000) }
     ensures { ProductNumbered x y vars result }
 {
-    let mut counts = [0u32; 32];
-    gather_rows(x, y, 0, &mut counts);
+    let cols = gather_rows(x, y, 0);
     let width = multiplier_width(x, y, 0);
-    let s = sum_bits(counts, width, vars + x as u32 * y as u32);
-    let lits = s.lits;
+    let s = sum_bits(cols.first_counts(width), vars + x as u32 * y as u32);
     ProductBits {
-        bits: Bits { lits, len: s.len },
+        bits: s.bits,
         vars: s.vars,
     }
 }
 
 // The multiplier: the product's bits, of which the first are given in m.
-pub fn log_encoding_multiplier(
-    lits: &mut [u32],
-    ends: &mut [u32],
-    x: Bits,
-    y: Bits,
-    m: Bits,
-    vars: u32,
-    at: Counts,
-) -> Multiplied
-    requires { MultiplierReady x y m vars at }
-    ensures { MultiplierAdded lits.old ends.old (multiplier (bits_of x) (bits_of y) (bits_of m) vars) at lits.new ends.new result }
+pub fn log_encoding_multiplier(set: &mut ClauseSet<'_>, x: &[Lit], y: &[Lit], m: &[Lit]) -> Bits
+    requires { MultiplierReady x.now y.now m.now set.old }
+    ensures { MultiplierAdded set.old (multiplier (map num x.now) (map num y.now) (map num m.now) set.old.vars) set.new result }
 {
-    let rows = push_rows(lits, ends, x, y, vars, at);
-    let mut counts = [0u32; 32];
-    let cols = gather_rows(x.len, y.len, vars, &mut counts);
-    let input = AdderInput {
-        width: multiplier_width(x.len, y.len, m.len),
-        constant: 0,
-        given: m.len,
-    };
-    let given = m.lits;
-    let sum = log_encoding_adder(lits, ends, cols, counts, given, input, rows.vars, rows.used);
-    let bits = sum.bits;
-    let used = sum.used;
-    Multiplied {
-        bits: Bits {
-            lits: bits,
-            len: sum.len,
-        },
-        vars: sum.vars,
-        used,
-    }
+    let first = set.vars;
+    push_all_rows(set, x, y);
+    let cols = gather_rows(x.len(), y.len(), first);
+    let width = multiplier_width(x.len(), y.len(), m.len());
+    log_encoding_adder(set, &cols, m, width, 0)
 }
 
 // Without offsets: x times y is m. The product's bits are m's literals, and those past them are 0.
-pub fn encode_product(
-    lits: &mut [u32],
-    ends: &mut [u32],
-    x: Bits,
-    y: Bits,
-    m: Bits,
-    vars: u32,
-    at: Counts,
-) -> RuleCounts
-    requires { MultiplierReady x y m vars at }
-    ensures { rule_outcome lits.new ends.new result ≡ add_rule (product (bits_of x) (bits_of y) (bits_of m) vars) (after lits.old ends.old at) }
+pub fn encode_product(set: &mut ClauseSet<'_>, x: &[Lit], y: &[Lit], m: &[Lit])
+    requires { MultiplierReady x.now y.now m.now set.old }
+    ensures { AddedRule set.old (product (map num x.now) (map num y.now) (map num m.now) set.old.vars) set.new }
 {
-    let mul = log_encoding_multiplier(lits, ends, x, y, m, vars, at);
-    let mut set = ClauseSet {
-        lits,
-        ends,
-        base: 0,
-        vars: mul.vars,
-        used: mul.used,
-    };
-    none_of(&mut set, mul.bits.rest(m.len));
-    RuleCounts {
-        vars: set.vars,
-        used: set.used,
-    }
+    let bits = log_encoding_multiplier(set, x, y, m);
+    none_of(set, bits.rest(m.len()));
 }

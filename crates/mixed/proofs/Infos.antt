@@ -1,16 +1,16 @@
 -- The terms of an inequality and the clauses of the last; terms that fit into a table; the terms negated.
 use mathlib.Core.Path.{◌≡◌, refl, ap, ◌∙◌}
-use mathlib.Core.List.{List, [], ◌∷◌, ◌++◌, map}
+use mathlib.Core.List.{List, [], ◌∷◌, ◌++◌, map, map-append}
 use Prim.Native.Nat.{ℕ, zero, suc, ◌+◌, ◌-◌, ◌*◌, ◌/◌, ◌≤◌, ◌<◌}
 use native.Mathlib.Nat.{zero-mul, mul_comm, not-suc-le-zero, div-lt_iff_lt-mul}
 use native.Mathlib.Numerals.{add-one}
 use native.Mathlib.Omega.{arith}
 use borrow.Author.Tests.{lt-leb, le-leb}
-use lib.ListN.{drop, length, get_or, set, take}
-use lib.Seq.{slice-cons}
+use lib.ListN.{drop, length, length-set, get_or, set, take}
+use lib.Seq.{drop-cons, take-length, take-suc, take-suc-set}
 use Rattle.mixed.specs.declared.LinearInfo.{LinearInfo}
 use Rattle.log_encoding.specs.Enumerate.{enumerate, bounded}
-use Rattle.mixed.specs.Infos.{AllSmall, InTable, info_lit, thresholds, thresholds_before, info_term, no_info, infos_left, last_loss, loss, negated_info}
+use Rattle.mixed.specs.Infos.{AllSmall, InTable, info_lit, thresholds, thresholds_before, info_term, no_info, last_loss, loss, negated_info}
 
 -- a product above some number has a first factor above 0
 pub factor : (w s n : ℕ) → s < w * n → 0 < w
@@ -63,51 +63,53 @@ last_append [] u us = refl
 last_append (t ∷ []) u us = refl
 last_append (t ∷ v ∷ ts) u us = last_append (v ∷ ts) u us
 
--- The terms infos-left -----------------------------------------------------------------------------------------------
+-- The terms left ----------------------------------------------------------------------------------------------------
 
-module _ (ts : List LinearInfo) (n : ℕ) where
-  pub left_more : (i : ℕ) → i < n → n ≤ length ts → infos_left ts n i ≡ get_or ts i no_info ∷ infos_left ts n (i + 1)
-  left_more i h k = rw add-one (slice-cons i n ts no_info h k)
+module _ (ts : List LinearInfo) where
+  pub left_more : (i : ℕ) → i < length ts → drop i ts ≡ get_or ts i no_info ∷ drop (i + 1) ts
+  left_more i h = rw add-one (drop-cons ts i no_info h)
 
   -- from each on, they fit into a table
-  pub in_table_left : n ≤ length ts → InTable (infos_left ts n 0) → (i : ℕ) → i < n → InTable (infos_left ts n i)
-  in_table_left k h zero b = h
-  in_table_left k h (suc i) b =
-      let a : i < n = omega arith in
-      let w = rw (left_more i a k, add-one i, left_more (suc i) b k) at (in_table_left k h i a) in
-      rw (left_more (suc i) b k) (in_table_later (get_or ts i no_info) (get_or ts (suc i) no_info) (infos_left ts n (suc i + 1)) w)
+  pub in_table_left : InTable ts → (i : ℕ) → i < length ts → InTable (drop i ts)
+  in_table_left h zero b = h
+  in_table_left h (suc i) b =
+      let a : i < length ts = omega arith in
+      let w = rw (left_more i a, add-one i, left_more (suc i) b) at (in_table_left h i a) in
+      rw (left_more (suc i) b) (in_table_later (get_or ts i no_info) (get_or ts (suc i) no_info) (drop (suc i + 1) ts) w)
 
-  pub bounded_dead : (above below : ℕ) → above < below → bounded (map info_term (infos_left ts n 0)) above below ≡ [] ∷ []
+  pub bounded_dead : (above below : ℕ) → above < below → bounded (map info_term ts) above below ≡ [] ∷ []
   unfolding bounded
   bounded_dead above below h = rw (lt-leb below above h)
 
-  pub bounded_live : (above below : ℕ) → below ≤ above → bounded (map info_term (infos_left ts n 0)) above below ≡ enumerate (map info_term (infos_left ts n 0)) (above - below) []
+  pub bounded_live : (above below : ℕ) → below ≤ above → bounded (map info_term ts) above below ≡ enumerate (map info_term ts) (above - below) []
   unfolding bounded
   bounded_live above below h = rw (le-leb below above h)
 
 -- Negated terms ------------------------------------------------------------------------------------------------------
 
--- the first i of the terms negated: one more
-pub negated_more : (ts : List LinearInfo) (i : ℕ) → i < length ts
-    → (let out = map negated_info (take i ts) ++ drop i ts in set out i (negated_info (get_or out i no_info)))
-    ≡ map negated_info (take (suc i) ts) ++ drop (suc i) ts
-negated_more [] i h = absurd (not-suc-le-zero h)
-negated_more (t ∷ ts) zero h = refl
-negated_more (t ∷ ts) (suc i) h = ap (λ (us : List LinearInfo). negated_info t ∷ us) (negated_more ts i (omega arith))
+-- the first i of the terms, negated, in an array with room for all
+pub record Negated (ts out : List LinearInfo) (i : ℕ) : Type 0 where
+  pub room : length ts ≤ length out
+  pub done : take i out ≡ map negated_info (take i ts)
+
+pub negated_more : (ts out : List LinearInfo) (i : ℕ) → Negated ts out i → i < length ts → Negated ts (set out i (negated_info (get_or ts i no_info))) (i + 1)
+negated_more ts out i n h =
+    let t = get_or ts i no_info in
+    record {
+      room = omega (arith, n.room, length-set out i (negated_info t));
+      done =
+          rw (add-one, take-suc ts i no_info h, map-append negated_info (take i ts) (t ∷ []), ← n.done)
+          (take-suc-set out i (negated_info t) (omega (arith, n.room)));
+    }
 
 -- and all of them
-pub negated_left : (ts : List LinearInfo) (n : ℕ) → infos_left (map negated_info (take n ts) ++ drop n ts) n 0 ≡ map negated_info (infos_left ts n 0)
-negated_left [] zero = refl
-negated_left [] (suc n) = refl
-negated_left (t ∷ ts) zero = refl
-negated_left (t ∷ ts) (suc n) = ap (λ (us : List LinearInfo). negated_info t ∷ us) (negated_left ts n)
+pub negated_end : (ts out : List LinearInfo) (i : ℕ) → Negated ts out i → i ≡ length ts → take (length ts) out ≡ map negated_info ts
+negated_end ts out i n e = rw (e, take-length ts) at n.done
 
-pub negated_small : (ts : List LinearInfo) (n : ℕ) → AllSmall ts → AllSmall (map negated_info (take n ts) ++ drop n ts)
-negated_small [] zero h k = h k
-negated_small [] (suc n) h k = h k
-negated_small (t ∷ ts) zero h k = h k
-negated_small (t ∷ ts) (suc n) h zero = record { top = (h zero).top }
-negated_small (t ∷ ts) (suc n) h (suc k) = negated_small ts n (λ (j : ℕ). h (suc j)) k
+pub negated_small : (ts : List LinearInfo) → AllSmall ts → AllSmall (map negated_info ts)
+negated_small [] h k = h k
+negated_small (t ∷ ts) h zero = record { top = (h zero).top }
+negated_small (t ∷ ts) h (suc k) = negated_small ts (λ (j : ℕ). h (suc j)) k
 
 negated_same : (ts : List LinearInfo)
     → (thresholds_before (map negated_info ts) ≡ thresholds_before ts) × (last_loss (map negated_info ts) ≡ last_loss ts) × (loss (map negated_info ts) ≡ loss ts)

@@ -2,8 +2,8 @@
 -- terms left can lose, there is no clause.
 use Prim.Native.Nat.{◌*◌, ◌+◌, ◌-◌, ◌<◌, ◌^◌, ◌≤◌, suc, suc-le-suc, zero, zero-le, ℕ}
 use borrow.Author.Tests.{le-leb}
-use lib.ListN.{get_or-eq_default, get_or, get_or-replicate, length, length-replicate, length-set, replicate, set}
-use lib.Seq.{get_or-set_other, get_or-set_same, slice_empty}
+use lib.ListN.{drop, get_or-eq_default, get_or, get_or-append, get_or-replicate, length, length-append, length-replicate, length-set, replicate}
+use lib.Seq.{drop-append_seam, get_or-append_seam, get_or-set_other, get_or-set_same}
 use mathlib.Core.List.{List, [], ◌++◌, ◌∷◌, map}
 use mathlib.Core.Logic.{◌⊎◌, inl, inr, ⊎_elim}
 use mathlib.Core.Path.{◌∙◌, ◌≡◌, ap, refl, sym}
@@ -12,11 +12,13 @@ use native.Mathlib.Omega.{arith}
 use Rattle.arithmetic.proofs.Tests.{same_or}
 use Rattle.mixed.specs.declared.LinearInfo.{LinearInfo}
 use Rattle.log_encoding.specs.Enumerate.{branch, enumerate}
-use Rattle.mixed.specs.Infos.{InTable, info_lit, info_term, infos_left, last_loss, loss, no_info, thresholds, thresholds_before}
-use Rattle.mixed_table.specs.Table.{SoundTable, after_of, loss_of, terms_of, top_of, walk_rows}
-use Rattle.mixed.specs.Filling.{Filled, put_last, put_term}
+use Rattle.mixed.specs.Infos.{AllSmall, InTable, Small, info_lit, info_term, last_loss, loss, no_info, thresholds, thresholds_before}
+use Rattle.mixed_table.specs.declared.Row.{Row}
+use Rattle.mixed_table.specs.declared.Table.{Table}
+use Rattle.mixed_table.specs.Table.{SoundTable, after_of, cost_of, empty_table, lit_of, loss_of, row_of, terms_of, top_of, walk_rows}
+use Rattle.mixed.specs.Filling.{Filled, put_last, put_term, threshold_row}
 use Rattle.mixed.proofs.Infos.{in_table_left, last_none, last_one, left_more, length_thresholds}
-use Rattle.mixed.proofs.Filling.{Last, Row, kept_end, kept_last, kept_terms, kept_row, kept_top, last_length, last_part, last_sound, last_top, rows_length, rows_row}
+use Rattle.mixed.proofs.Filling.{Last, last_part, last_sound, rows_kept, rows_length, rows_row}
 use Rattle.mixed_table.proofs.Walk.{walk_covered, walk_last, walk_more}
 
 which : (a b : ℕ) → (a ≤ b) ⊎ (b < a)
@@ -52,21 +54,21 @@ terms_before (t ∷ []) = 0
 terms_before (t ∷ u ∷ us) = suc (terms_before (u ∷ us))
 
 -- the table has the terms
-unfoldable pub Has : List ℕ → List LinearInfo → Type 0
+unfoldable pub Has : Table → List LinearInfo → Type 0
 Has tab [] = Unit
 Has tab (t ∷ []) = Last tab t
 Has tab (t ∷ u ∷ us) =
-    ((i : ℕ) → i < t.count → Row tab t i (terms_before (u ∷ us) + 1) (thresholds_before (u ∷ us)) (loss (u ∷ us)))
+    ((i : ℕ) → i < t.count → row_of tab (suc i + thresholds_before (u ∷ us)) ≡ threshold_row t (terms_before (u ∷ us) + 1) (loss (u ∷ us)) (suc i))
     × (top_of tab (suc (terms_before (u ∷ us))) ≡ t.count + thresholds_before (u ∷ us))
     × Has tab (u ∷ us)
 
 -- where its thresholds begin
-has_top : (tab : List ℕ) (t : LinearInfo) (ts : List LinearInfo) → Has tab (t ∷ ts) → top_of tab (terms_before (t ∷ ts)) ≡ thresholds_before (t ∷ ts)
+has_top : (tab : Table) (t : LinearInfo) (ts : List LinearInfo) → Has tab (t ∷ ts) → top_of tab (terms_before (t ∷ ts)) ≡ thresholds_before (t ∷ ts)
 unfolding Has thresholds_before terms_before
 has_top tab t [] e = e.none
 has_top tab t (u ∷ us) e = e.1
 
-module _ (tab : List ℕ) (z : SoundTable tab) where
+module _ (tab : Table) (z : SoundTable tab) where
   tells_last : (t : LinearInfo) → Last tab t → (s : ℕ) (p : List ℕ) → walk_rows tab 0 s p ≡ enumerate (info_term t ∷ []) s p
   tells_last t e s p =
       ⊎_elim
@@ -76,7 +78,7 @@ module _ (tab : List ℕ) (z : SoundTable tab) where
 
   -- a term with v terms and the last after it, k of its thresholds left
   module _ (t : LinearInfo) (rest : ℕ → List ℕ → List (List ℕ)) (v n r : ℕ)
-      (rows : (i : ℕ) → i < t.count → Row tab t i (v + 1) n r)
+      (rows : (i : ℕ) → i < t.count → row_of tab (suc i + n) ≡ threshold_row t (v + 1) r (suc i))
       (top : top_of tab (suc v) ≡ t.count + n)
       (later : top_of tab v ≡ n)
       (more : (s : ℕ) (p : List ℕ) → walk_rows tab n s p ≡ rest s p)
@@ -88,12 +90,16 @@ module _ (tab : List ℕ) (z : SoundTable tab) where
         let before : suc k + n - 1 ≡ k + n = omega arith in
         let behind = tells_branch k s p (omega arith) in
         let one : v + 1 - 1 ≡ v = omega arith in
-        let next : after_of tab (suc k + n) ≡ n = rw (row.terms, one) later in
+        let terms : terms_of tab (suc k + n) ≡ v + 1 = ap (λ (x : Row). x.terms) row in
+        let cost : cost_of tab (suc k + n) ≡ t.weight * suc k = ap (λ (x : Row). x.cost) row in
+        let lost : loss_of tab (suc k + n) ≡ t.weight * suc k + r = ap (λ (x : Row). x.loss) row in
+        let own : lit_of tab (suc k + n) ≡ info_lit t (t.count - suc k) = ap (λ (x : Row). x.lit.0) row in
+        let next : after_of tab (suc k + n) ≡ n = rw (terms, one) later in
         ⊎_elim
-        (λ b. walk_covered tab z s p (suc k + n) (omega (arith, row.loss)) ∙ sym (branch_covered rest t r none (suc k) s p b))
+        (λ b. walk_covered tab z s p (suc k + n) (omega (arith, lost)) ∙ sym (branch_covered rest t r none (suc k) s p b))
         (λ b.
-        walk_more tab z s p (suc v) (suc k + n) (omega arith) (omega (arith, top)) (omega (arith, row.loss))
-        ∙ rw (row.lit, row.cost, next, before, behind, more (s - t.weight * suc k) (p ++ (info_lit t (t.count - suc k) ∷ [])), length_thresholds t k))
+        walk_more tab z s p (suc v) (suc k + n) (omega arith) (omega (arith, top)) (omega (arith, lost))
+        ∙ rw (own, cost, next, before, behind, more (s - t.weight * suc k) (p ++ (info_lit t (t.count - suc k) ∷ [])), length_thresholds t k))
         (which (t.weight * suc k + r) s)
 
   tells : (t : LinearInfo) (ts : List LinearInfo) → Has tab (t ∷ ts)
@@ -107,62 +113,43 @@ module _ (tab : List ℕ) (z : SoundTable tab) where
 -- Filling a table from the last term ---------------------------------------------------------------------------------
 
 -- a term is put before v terms that have n thresholds and a loss of r
-module _ (tab : List ℕ) (t : LinearInfo) (v n r : ℕ) (e : length tab ≡ 144) (o : v < 23) (h : t.count + n < 24) where
-  abbrev tab' : List ℕ
-  tab' = set tab (121 + v) (n + t.count)
-
-  long' : length tab' ≡ 144
-  long' = length-set tab (121 + v) (n + t.count) ∙ e
-
-  abbrev filled' : List ℕ
+module _ (tab : Table) (t : LinearInfo) (v n r : ℕ) (e : length tab.rows ≡ 24) (f : length tab.tops ≡ 24) (o : v < 23) (h : t.count + n < 24) where
+  abbrev filled' : Table
   filled' = put_term tab t v n r
 
   top_own : top_of filled' (suc v) ≡ n + t.count
   top_own =
-      let i : 120 + suc v ≡ 121 + v = omega arith in
-      kept_top tab' t (v + 1) n r long' t.count h (suc v) ∙ rw i (get_or-set_same tab (121 + v) (n + t.count) 0 (omega arith))
+      let i : v + 1 ≡ suc v = omega arith in
+      rw i (get_or-set_same tab.tops (suc v) (n + t.count) 0 (omega (arith, f)))
 
   top_other : (j : ℕ) → (j ≡ suc v → ⊥) → top_of filled' j ≡ top_of tab j
-  top_other j f =
-      kept_top tab' t (v + 1) n r long' t.count h j ∙ get_or-set_other tab (121 + v) (120 + j) (n + t.count) 0 (λ z. f (omega arith))
+  top_other j g = get_or-set_other tab.tops (v + 1) j (n + t.count) 0 (λ z. g (omega arith))
+
+  row_kept : (k : ℕ) → k ≤ n → row_of filled' k ≡ row_of tab k
+  row_kept k g = rows_kept tab.rows t (v + 1) n r t.count k g
 
   terms_other : (k : ℕ) → k ≤ n → terms_of filled' k ≡ terms_of tab k
-  terms_other k g = kept_terms tab' t (v + 1) n r long' t.count h k g ∙ get_or-set_other tab (121 + v) (48 + k) (n + t.count) 0 (λ z. omega arith)
+  terms_other k g = ap (λ (x : Row). x.terms) (row_kept k g)
+
+  row_own : (j : ℕ) → j < t.count → row_of filled' (suc j + n) ≡ threshold_row t (v + 1) r (suc j)
+  row_own j g = rows_row tab.rows t (v + 1) n r e t.count h j g
 
   terms_own : (k : ℕ) → n < k → k ≤ n + t.count → terms_of filled' k ≡ v + 1
   terms_own k a b =
       let i : suc (k - n - 1) + n ≡ k = omega arith in
-      rw i at (rows_row tab' t (v + 1) n r long' t.count h (k - n - 1) (omega arith)).terms
-
-  row_kept : {u : LinearInfo} (j w m x : ℕ) → suc j + m ≤ n → Row tab u j w m x → Row filled' u j w m x
-  row_kept {u} j w m x g y =
-      kept_row tab' t (v + 1) n r long' t.count h j w m x g
-      (record {
-        lit = get_or-set_other tab (121 + v) (suc j + m) (n + t.count) 0 (λ z. omega arith) ∙ y.lit;
-        cost = get_or-set_other tab (121 + v) (24 + (suc j + m)) (n + t.count) 0 (λ z. omega arith) ∙ y.cost;
-        terms = get_or-set_other tab (121 + v) (48 + (suc j + m)) (n + t.count) 0 (λ z. omega arith) ∙ y.terms;
-        loss = get_or-set_other tab (121 + v) (72 + (suc j + m)) (n + t.count) 0 (λ z. omega arith) ∙ y.loss;
-      })
+      rw i at (ap (λ (x : Row). x.terms) (row_own (k - n - 1) (omega arith)))
 
   last_kept : loss_of filled' 0 ≡ loss_of tab 0
-  last_kept = kept_last tab' t (v + 1) n r long' t.count h ∙ get_or-set_other tab (121 + v) 72 (n + t.count) 0 (λ z. omega arith)
+  last_kept = ap (λ (x : Row). x.loss) (row_kept 0 (omega arith))
 
-  kept : loss_of tab 0 ≤ 24 → (us : List LinearInfo) → thresholds_before us ≤ n → terms_before us ≤ v → Has tab us → Has filled' us
+  kept : (us : List LinearInfo) → thresholds_before us ≤ n → terms_before us ≤ v → Has tab us → Has filled' us
   unfolding Has thresholds_before terms_before
-  kept b [] g a y = y
-  kept b (u ∷ []) g a y =
-      record {
-        none = top_other 0 (λ z. omega arith) ∙ y.none;
-        loss = last_kept ∙ y.loss;
-        lit = λ s p.
-            kept_end tab' t (v + 1) n r long' t.count h s
-            ∙ get_or-set_other tab (121 + v) (96 + s) (n + t.count) 0 (λ z. omega (arith, y.loss))
-            ∙ y.lit s p;
-      }
-  kept b (u ∷ w ∷ us) g a y = (
-    λ j p. row_kept j (terms_before (w ∷ us) + 1) (thresholds_before (w ∷ us)) (loss (w ∷ us)) (omega arith) (y.0 j p),
+  kept [] g a y = y
+  kept (u ∷ []) g a y = record { none = top_other 0 (λ z. omega arith) ∙ y.none; loss = last_kept ∙ y.loss; lit = y.lit }
+  kept (u ∷ w ∷ us) g a y = (
+    λ j p. row_kept (suc j + thresholds_before (w ∷ us)) (omega arith) ∙ y.0 j p,
     top_other (suc (terms_before (w ∷ us))) (λ z. omega arith) ∙ y.1,
-    kept b (w ∷ us) (omega arith) (omega arith) y.2,
+    kept (w ∷ us) (omega arith) (omega arith) y.2,
   )
 
   -- the recursion can follow the longer table
@@ -226,8 +213,9 @@ module _ (tab : List ℕ) (t : LinearInfo) (v n r : ℕ) (e : length tab ≡ 144
         }
 
 -- a table that is filled with the terms, and what the code knows of them
-pub record Filling (tab : List ℕ) (ts : List LinearInfo) (terms left lost : ℕ) : Type 0 where
-  pub long : length tab ≡ 144
+pub record Filling (tab : Table) (ts : List LinearInfo) (terms left lost : ℕ) : Type 0 where
+  pub rows_long : length tab.rows ≡ 24
+  pub tops_long : length tab.tops ≡ 24
   pub sound : SoundTable tab
   pub has : Has tab ts
   pub terms_are : terms ≡ terms_before ts
@@ -236,114 +224,122 @@ pub record Filling (tab : List ℕ) (ts : List LinearInfo) (terms left lost : �
   pub small : left < 24
   pub tops : (j : ℕ) → top_of tab j ≤ left
 
-empty_top : (j : ℕ) → top_of (replicate 144 0) j ≡ 0
+empty_top : (j : ℕ) → top_of empty_table j ≡ 0
 empty_top j =
     ⊎_elim
-    (λ h. get_or-eq_default {A = ℕ} (replicate 144 0) 0 {n = 120 + j} (omega (arith, length-replicate {A = ℕ} 144 0)))
-    (λ h. get_or-replicate {A = ℕ} 144 (120 + j) 0 0 (omega arith))
+    (λ h. get_or-eq_default {A = ℕ} (replicate 24 0) 0 {n = j} (omega (arith, length-replicate {A = ℕ} 24 0)))
+    (λ h. get_or-replicate {A = ℕ} 24 j 0 0 (omega arith))
     (which 24 j)
 
-empty_sound : SoundTable (replicate 144 0)
+empty_sound : SoundTable empty_table
 empty_sound =
     record {
       some = λ j k y b. absurd (omega (arith, empty_top j));
       own = λ j k y b. absurd (omega (arith, empty_top j));
       small = λ j. omega (arith, empty_top j);
-      last = omega (arith, get_or-replicate {A = ℕ} 144 72 0 0 (omega arith));
+      last = omega arith;
     }
 
-filling_last : (t : LinearInfo) → t.weight * t.count ≤ 24 → Filling (put_last (replicate 144 0) t) (t ∷ []) 0 0 (t.weight * t.count)
+filling_last : (t : LinearInfo) → t.weight * t.count ≤ 24 → Filling (put_last empty_table t) (t ∷ []) 0 0 (t.weight * t.count)
 unfolding Has thresholds_before loss terms_before
 filling_last t h =
-    let e : length {A = ℕ} (replicate 144 0) ≡ 144 = length-replicate {A = ℕ} 144 0 in
     record {
-      long = last_length (replicate 144 0) t e;
-      sound = last_sound (replicate 144 0) t e h empty_top;
-      has = last_part (replicate 144 0) t e h empty_top;
+      rows_long = refl;
+      tops_long = refl;
+      sound = last_sound empty_table t h empty_top refl;
+      has = last_part empty_table t h empty_top refl refl;
       terms_are = refl;
       left_is = refl;
       lost_is = omega arith;
       small = omega arith;
-      tops = λ j. omega (arith, last_top (replicate 144 0) t e h j, empty_top j);
+      tops = λ j. omega (arith, empty_top j);
     }
 
-filling_more : (tab : List ℕ) (t u : LinearInfo) (us : List LinearInfo) (terms left lost : ℕ) → Filling tab (u ∷ us) terms left lost → terms < 23
+filling_more : (tab : Table) (t u : LinearInfo) (us : List LinearInfo) (terms left lost : ℕ) → Filling tab (u ∷ us) terms left lost → terms < 23
     → left + t.count < 24 → Filling (put_term tab t terms left lost) (t ∷ u ∷ us) (terms + 1) (left + t.count) (lost + t.weight * t.count)
 unfolding Has thresholds_before loss terms_before
 filling_more tab t u us terms left lost f o h =
     let b : t.count + left < 24 = omega arith in
     let is : top_of tab terms ≡ left = rw (f.terms_are, f.left_is) (has_top tab u us f.has) in
-    let m = set tab (121 + terms) (left + t.count) in
-    let l : length m ≡ 144 = length-set tab (121 + terms) (left + t.count) ∙ f.long in
     record {
-      long = rows_length m t (terms + 1) left lost l t.count;
-      sound = sound_more tab t terms left lost f.long o b f.sound is f.tops;
+      rows_long = rows_length tab.rows t (terms + 1) left lost t.count ∙ f.rows_long;
+      tops_long = length-set tab.tops (terms + 1) (left + t.count) ∙ f.tops_long;
+      sound = sound_more tab t terms left lost f.rows_long f.tops_long o b f.sound is f.tops;
       has = (
-        rw (← f.terms_are, ← f.left_is, ← f.lost_is) (rows_row m t (terms + 1) left lost l t.count b),
-        rw (← f.terms_are, ← f.left_is) (omega (arith, top_own tab t terms left lost f.long o b)),
-        kept tab t terms left lost f.long o b f.sound.last (u ∷ us) (omega (arith, f.left_is)) (omega (arith, f.terms_are)) f.has,
+        rw (← f.terms_are, ← f.left_is, ← f.lost_is) (row_own tab t terms left lost f.rows_long f.tops_long o b),
+        rw (← f.terms_are, ← f.left_is) (omega (arith, top_own tab t terms left lost f.rows_long f.tops_long o b)),
+        kept tab t terms left lost f.rows_long f.tops_long o b (u ∷ us) (omega (arith, f.left_is)) (omega (arith, f.terms_are)) f.has,
       );
       terms_are = omega (arith, f.terms_are);
       left_is = omega (arith, f.left_is);
       lost_is = omega (arith, f.lost_is);
       small = h;
-      tops = tops_more tab t terms left lost f.long o b f.sound is f.tops;
+      tops = tops_more tab t terms left lost f.rows_long f.tops_long o b f.sound is f.tops;
     }
 
 -- The terms of the code ----------------------------------------------------------------------------------------------
 
-module _ (ts : List LinearInfo) (n : ℕ) (k : n ≤ length ts) where
-  pub start_filling : (i : ℕ) → i + 1 ≡ n → (get_or ts i no_info).weight * (get_or ts i no_info).count ≤ 24
-      → Filling (put_last (replicate 144 0) (get_or ts i no_info)) (infos_left ts n i) 0 0 ((get_or ts i no_info).weight * (get_or ts i no_info).count)
-  start_filling i e h =
-      let b : i < n = omega arith in
-      rw (left_more ts n i b k, e, slice_empty n ts) (filling_last (get_or ts i no_info) h)
+-- no term
+pub none_filled : (ts : List LinearInfo) → length ts ≡ 0 → Filled empty_table ts 0
+unfolding enumerate
+none_filled (t ∷ ts) e = absurd (omega (arith, e))
+none_filled [] e =
+    record { few = omega arith; sound = empty_sound; same = λ s p. rw (empty_top 0) (walk_covered empty_table empty_sound s p 0 (omega arith)) }
 
-  pub go_on_filling : (tab : List ℕ) (i terms left lost : ℕ) → 0 < i → i < n → Filling tab (infos_left ts n i) terms left lost → terms < 23
-      → left + (get_or ts (i - 1) no_info).count < 24
-      → Filling (put_term tab (get_or ts (i - 1) no_info) terms left lost) (infos_left ts n (i - 1)) (terms + 1) (left + (get_or ts (i - 1) no_info).count) (lost + (get_or ts (i - 1) no_info).weight * (get_or ts (i - 1) no_info).count)
-  go_on_filling tab i terms left lost y h f o b =
-      let a : i - 1 < n = omega arith in
-      let j : i - 1 + 1 ≡ i = omega arith in
-      rw (left_more ts n (i - 1) a k, j, left_more ts n i h k)
-      (filling_more tab (get_or ts (i - 1) no_info) (get_or ts i no_info) (infos_left ts n (i + 1)) terms left lost (rw (left_more ts n i h k) at f) o b)
+-- the last of them, behind those before
+module _ (ts before : List LinearInfo) (last : LinearInfo) (e : ts ≡ before ++ (last ∷ [])) where
+  long : length ts ≡ length before + 1
+  long = rw e (length-append before (last ∷ []))
 
-  pub end_filling : (tab : List ℕ) (terms left lost : ℕ) → 0 < n → terms < 24 → Filling tab (infos_left ts n 0) terms left lost
-      → Filled tab (infos_left ts n 0) terms
-  end_filling tab terms left lost y o f =
-      let g = rw (left_more ts n 0 y k) at f in
+  at_last : drop (length before) ts ≡ last ∷ []
+  at_last = rw e (drop-append_seam before (last ∷ []))
+
+  -- one before
+  at_more : (i : ℕ) → i < length before → drop i ts ≡ get_or before i no_info ∷ drop (i + 1) ts
+  at_more i h = left_more ts i (omega (arith, long)) ∙ ap (λ u. u ∷ drop (i + 1) ts) (rw e (get_or-append before (last ∷ []) no_info i h))
+
+  at_first : (i : ℕ) → i ≤ length before → (u : LinearInfo) × (us : List LinearInfo) × (drop i ts ≡ u ∷ us)
+  at_first i h =
+      ⊎_elim
+      (λ (b : length before ≤ i). let j : i ≡ length before = omega arith in (last, [], rw j at_last))
+      (λ (b : i < length before). (get_or before i no_info, drop (i + 1) ts, at_more i b))
+      (which (length before) i)
+
+  pub small_last : AllSmall ts → Small last
+  small_last h = rw (e, get_or-append_seam before last [] no_info) at (h (length before))
+
+  pub small_before : AllSmall ts → (i : ℕ) → i < length before → Small (get_or before i no_info)
+  small_before h i b = rw (e, get_or-append before (last ∷ []) no_info i b) at (h i)
+
+  module _ (h : InTable ts) where
+    pub last_fits : last.weight * last.count ≤ 24
+    unfolding last_loss
+    last_fits = (rw at_last at (in_table_left ts h (length before) (omega (arith, long)))).last
+
+    pub start_filling : Filling (put_last empty_table last) (drop (length before) ts) 0 0 (last.weight * last.count)
+    start_filling = rw at_last (filling_last last last_fits)
+
+    module _ (tab : Table) (i terms left lost : ℕ) (b : i < length before) (f : Filling tab (drop (i + 1) ts) terms left lost) where
+      pub term_fits : (left + (get_or before i no_info).count < 24) × ((get_or before i no_info).weight * (get_or before i no_info).count + lost < 2 ^ 32)
+      unfolding thresholds_before loss
+      term_fits =
+          let n = at_first (i + 1) (omega arith) in
+          let g = rw n.2 at f in
+          let w = rw (at_more i b, n.2) at (in_table_left ts h i (omega (arith, long))) in
+          (omega (arith, w.few, g.left_is), omega (arith, w.all, g.lost_is))
+
+      pub go_on_filling : terms < 23
+          → Filling (put_term tab (get_or before i no_info) terms left lost) (drop i ts) (terms + 1) (left + (get_or before i no_info).count) (lost + (get_or before i no_info).weight * (get_or before i no_info).count)
+      go_on_filling o =
+          let n = at_first (i + 1) (omega arith) in
+          rw (at_more i b, n.2) (filling_more tab (get_or before i no_info) n.0 n.1 terms left lost (rw n.2 at f) o term_fits.0)
+
+  pub end_filling : (tab : Table) (terms left lost : ℕ) → terms < 24 → Filling tab ts terms left lost → Filled tab ts terms
+  end_filling tab terms left lost o f =
+      let n = at_first 0 (omega arith) in
+      let g = rw n.2 at f in
       record {
         few = o;
         sound = f.sound;
-        same = λ s p.
-            rw (left_more ts n 0 y k, g.terms_are, has_top tab (get_or ts 0 no_info) (infos_left ts n 1) g.has)
-            (tells tab f.sound (get_or ts 0 no_info) (infos_left ts n 1) g.has s p);
+        same = λ s p. rw (n.2, g.terms_are, has_top tab n.0 n.1 g.has) (tells tab f.sound n.0 n.1 g.has s p);
       }
-
-  -- no term
-  pub none_filled : n ≡ 0 → Filled (replicate 144 0) (infos_left ts n 0) 0
-  unfolding enumerate
-  none_filled e =
-      record {
-        few = omega arith;
-        sound = empty_sound;
-        same = λ s p. rw (e, empty_top 0) (walk_covered (replicate 144 0) empty_sound s p 0 (omega (arith, get_or-replicate {A = ℕ} 144 72 0 0 (omega arith))));
-      }
-
-  -- where the terms fit into a table: the last, and one before others
-  module _ (h : InTable (infos_left ts n 0)) where
-    pub last_fits : (i : ℕ) → i + 1 ≡ n → (get_or ts i no_info).weight * (get_or ts i no_info).count ≤ 24
-    unfolding last_loss
-    last_fits i e =
-        let b : i < n = omega arith in
-        (rw (left_more ts n i b k, e, slice_empty n ts) at (in_table_left ts n k h i b)).last
-
-    pub term_fits : (tab : List ℕ) (i terms left lost : ℕ) → 0 < i → i < n → Filling tab (infos_left ts n i) terms left lost
-        → (left + (get_or ts (i - 1) no_info).count < 24) × ((get_or ts (i - 1) no_info).weight * (get_or ts (i - 1) no_info).count + lost < 2 ^ 32)
-    unfolding thresholds_before loss
-    term_fits tab i terms left lost y b f =
-        let a : i - 1 < n = omega arith in
-        let j : i - 1 + 1 ≡ i = omega arith in
-        let f' = rw (left_more ts n i b k) at f in
-        let w = rw (left_more ts n (i - 1) a k, j, left_more ts n i b k) at (in_table_left ts n k h (i - 1) a) in
-        (omega (arith, w.few, f'.left_is), omega (arith, w.all, f'.lost_is))

@@ -1,5 +1,5 @@
 -- The terms of an inequality as the code holds them.
-use Rattle.std.specs.Prelude.{◌*◌, ◌+◌, ◌-◌, ◌<◌, ◌^◌, ◌≤◌, suc, zero, ℕ, drop, get_or, take, cond, false, not, List, [], ◌++◌, ◌∷◌, map}
+use Rattle.std.specs.Prelude.{◌*◌, ◌+◌, ◌-◌, ◌<◌, ◌^◌, ◌≤◌, suc, zero, ℕ, get_or, cond, false, not, List, [], ◌++◌, ◌∷◌, map}
 use Rattle.sat.specs.Clause.{Clauses}
 use Rattle.sat.specs.Lit.{neg}
 use Rattle.log_encoding.specs.Enumerate.{bounded}
@@ -28,10 +28,6 @@ no_info = record { weight = 0; falling = false; first = record { 0 = 0 }; count 
 
 abbrev pub AllSmall : List LinearInfo → Type 0
 AllSmall ts = (k : ℕ) → Small (get_or ts k no_info)
-
--- the terms from `at` on, of the first n
-abbrev pub infos_left : List LinearInfo → ℕ → ℕ → List LinearInfo
-infos_left ts n at = drop at (take n ts)
 
 -- thresholds before the last term
 unfoldable pub thresholds_before : List LinearInfo → ℕ

@@ -3,19 +3,21 @@
 // The thresholds of the terms go into one table (specs/Filling), by which the clauses are told.
 #![tactic(auto)]
 
-ghost use Rattle.std.specs.Prelude.{◌≡◌, map, ◌+◌, ◌*◌, ◌^◌, ◌≤◌, ◌<◌, length, replicate};
+ghost use Rattle.std.specs.Prelude.{◌≡◌, map, ◌+◌, ◌*◌, ◌^◌, ◌≤◌, ◌<◌, length, take};
 ghost use Rattle.clause_set.specs.Stores.{Added, Fits};
 ghost use Rattle.log_encoding.specs.Enumerate.{bounded};
-ghost use Rattle.mixed.specs.Infos.{AllSmall, InTable, Small, equated, info_lit, info_term, infos_left, negated_info};
+ghost use Rattle.mixed.specs.Infos.{AllSmall, InTable, Small, equated, info_lit, info_term, negated_info};
 ghost use Rattle.mixed.specs.Filling.{Filled, put_last, put_term};
+ghost use Rattle.mixed_table.specs.Table.{empty_table};
 
 use clause_set::ClauseSet;
-use mixed_table::{encode_table, wide};
+use mixed_table::{Row, Table, encode_table};
 use sat::Lit;
+use std::ops::Neg;
 
 // A term of an inequality: `count` thresholds, the first with the literal `first`, the others with those of the variables after it.
 // Each is worth `weight`. Where the coefficient is negative (`falling`), they are the negations, from the last variable down.
-#[derive(Clone, Copy)]
+#[derive(Clone, Copy, Default)]
 pub struct LinearInfo {
     pub weight: u32,
     pub falling: bool,
@@ -38,66 +40,56 @@ pub fn lit_at(t: LinearInfo, i: u32) -> Lit
 }
 
 // The last term's part of a table.
-fn add_last(tab: &mut [u32; 144], t: LinearInfo)
-    requires tab_len { (length tab.old ≡ 144) × (t.weight * t.count ≤ 24) }
+fn add_last(tab: &mut Table, t: LinearInfo)
+    requires top { t.weight * t.count ≤ 24 }
     requires small { Small t }
     ensures { tab.new ≡ put_last tab.old t }
 {
     let top = t.weight * t.count;
-    tab[72] = top;
-    let mut s: u32 = 0;
-    while s < top {
-        let covered = s / t.weight;
-        let l = lit_at(t, t.count - covered - 1);
-        tab[96 + wide(s)] = l.0;
-        s += 1;
+    tab.rows[0].loss = top;
+    for slack in 0..top {
+        tab.ends[slack as usize] = lit_at(t, t.count - slack / t.weight - 1);
     }
 }
 
 // A term's thresholds, from the last, before `terms` terms with `left` thresholds and a loss of `lost`.
-fn add_term(tab: &mut [u32; 144], terms: usize, left: usize, lost: u32, t: LinearInfo)
-    requires tab_len { (length tab.old ≡ 144) × (terms < 23) × (left + t.count < 24) × (t.weight * t.count + lost < 2 ^ 32) }
+fn add_term(tab: &mut Table, terms: usize, left: usize, lost: u32, t: LinearInfo)
+    requires tab_fits { (terms < 23) × (left + t.count < 24) × (t.weight * t.count + lost < 2 ^ 32) }
     requires small { Small t }
     ensures { tab.new ≡ put_term tab.old t terms left lost }
 {
-    let n = t.count;
-    tab[121 + terms] = (left + wide(n)) as u32;
-    let mut i: u32 = 0;
+    tab.tops[terms + 1] = left + t.count as usize;
     let mut cost: u32 = 0;
-    while i < n {
+    for i in 0..t.count {
         cost += t.weight;
-        let k = left + wide(i) + 1;
-        let l = lit_at(t, n - 1 - i);
-        tab[k] = l.0;
-        tab[24 + k] = cost;
-        tab[48 + k] = (terms + 1) as u32;
-        tab[72 + k] = cost + lost;
-        i += 1;
+        tab.rows[left + i as usize + 1] = Row {
+            lit: lit_at(t, t.count - 1 - i),
+            cost,
+            terms: terms + 1,
+            loss: cost + lost,
+        };
     }
 }
 
 // The table of the terms, from the last; how many stand before it.
-fn fill_table(tab: &mut [u32; 144], ts: [LinearInfo; 15], n: usize) -> usize
-    requires all_small { AllSmall ts }
-    requires n_bound { (n ≤ 15) × InTable (infos_left ts n 0) }
-    requires tab_value { tab.old ≡ replicate 144 0 }
-    ensures { Filled tab.new (infos_left ts n 0) result }
+fn fill_table(tab: &mut Table, ts: &[LinearInfo]) -> usize
+    requires all_small { AllSmall ts.now }
+    requires in_table { (length ts.now ≤ 15) × InTable ts.now }
+    requires tab_value { tab.old ≡ empty_table }
+    ensures { Filled tab.new ts.now result }
 {
-    if n == 0 {
+    let Some((last, before)) = ts.split_last() else {
         return 0;
-    }
-    let mut i = n - 1;
-    let last = ts[i];
-    add_last(tab, last);
+    };
+    add_last(tab, *last);
     let mut terms: usize = 0;
     let mut left: usize = 0;
     let mut lost = last.weight * last.count;
-    while 0 < i {
-        i -= 1;
-        let t = ts[i];
+    for i in (0..before.len()).rev() {
+        let t = before[i];
         add_term(tab, terms, left, lost, t);
         terms += 1;
-        left += wide(t.count);
+        left += t.count as usize;
         lost += t.weight * t.count;
     }
     terms
@@ -106,50 +98,46 @@ fn fill_table(tab: &mut [u32; 144], ts: [LinearInfo; 15], n: usize) -> usize
 // The clauses of the inequality whose slack is `above - below`; below 0, one empty clause.
 pub fn encode_linear_ge_mixed_from_info(
     set: &mut ClauseSet<'_>,
-    ts: [LinearInfo; 15],
-    n: usize,
+    ts: &[LinearInfo],
     above: u64,
     below: u64,
 )
-    requires all_small { AllSmall ts }
-    requires n_bound { (n ≤ 15) × InTable (infos_left ts n 0) }
-    requires fits { Fits set.old.base set.old.used (bounded (map info_term (infos_left ts n 0)) above below) }
-    ensures { Added set.old (bounded (map info_term (infos_left ts n 0)) above below) set.new }
+    requires all_small { AllSmall ts.now }
+    requires in_table { (length ts.now ≤ 15) × InTable ts.now }
+    requires fits { Fits set.old.base set.old.used (bounded (map info_term ts.now) above below) }
+    ensures { Added set.old (bounded (map info_term ts.now) above below) set.new }
 {
     if above < below {
         set.push(&[]);
         return;
     }
-    let mut tab = [0u32; 144];
-    let left = fill_table(&mut tab, ts, n);
+    let mut tab = Table::empty();
+    let left = fill_table(&mut tab, ts);
     encode_table(set, &tab, left, above - below);
 }
 
 // The term of minus the number.
-fn negated(t: LinearInfo) -> LinearInfo
-    ensures { result ≡ negated_info t }
-{
-    let first = t.first;
-    LinearInfo {
-        weight: t.weight,
-        falling: !t.falling,
-        first,
-        count: t.count,
+impl Neg for LinearInfo {
+    type Output = LinearInfo;
+
+    ghost neg_gives = { λ t u. u ≡ negated_info t };
+
+    fn neg(self) -> LinearInfo {
+        LinearInfo {
+            falling: !self.falling,
+            ..self
+        }
     }
 }
 
-// The first n terms, of minus their sum.
-fn negate_all(ts: [LinearInfo; 15], n: usize) -> [LinearInfo; 15]
-    requires { AllSmall ts × (n ≤ 15) }
-    ensures { (infos_left result n 0 ≡ map negated_info (infos_left ts n 0)) × AllSmall result }
+// The terms of minus their sum.
+fn negate_all(ts: &[LinearInfo]) -> [LinearInfo; 15]
+    requires { AllSmall ts.now × (length ts.now ≤ 15) }
+    ensures { take (length ts.now) result ≡ map negated_info ts.now }
 {
-    let mut out = ts;
-    let mut i: usize = 0;
-    while i < n {
-        let t = out[i];
-        let opposite = negated(t);
-        out[i] = opposite;
-        i += 1;
+    let mut out = [LinearInfo::default(); 15];
+    for (i, t) in ts.iter().enumerate() {
+        out[i] = -*t;
     }
     out
 }
@@ -157,18 +145,17 @@ fn negate_all(ts: [LinearInfo; 15], n: usize) -> [LinearInfo; 15]
 // The clauses of an equation: both inequalities, the second over the negated terms. `total` is what the terms can lose.
 pub fn encode_linear_eq_mixed_from_info(
     set: &mut ClauseSet<'_>,
-    ts: [LinearInfo; 15],
-    n: usize,
+    ts: &[LinearInfo],
     above: u64,
     below: u64,
     total: u64,
 )
-    requires all_small { AllSmall ts }
-    requires n_bound { (n ≤ 15) × (below + total < 2 ^ 64) × InTable (infos_left ts n 0) }
-    requires fits { Fits set.old.base set.old.used (equated (infos_left ts n 0) above below total) }
-    ensures { Added set.old (equated (infos_left ts n 0) above below total) set.new }
+    requires all_small { AllSmall ts.now }
+    requires in_table { (length ts.now ≤ 15) × (below + total < 2 ^ 64) × InTable ts.now }
+    requires fits { Fits set.old.base set.old.used (equated ts.now above below total) }
+    ensures { Added set.old (equated ts.now above below total) set.new }
 {
-    encode_linear_ge_mixed_from_info(set, ts, n, above, below);
-    let down = negate_all(ts, n);
-    encode_linear_ge_mixed_from_info(set, down, n, below + total, above);
+    encode_linear_ge_mixed_from_info(set, ts, above, below);
+    let down = negate_all(ts);
+    encode_linear_ge_mixed_from_info(set, &down[..ts.len()], below + total, above);
 }

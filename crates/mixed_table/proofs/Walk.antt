@@ -1,5 +1,5 @@
 -- The clauses that a table tells, as the code comes by them: at the last term, where the slack covers every loss, at a threshold.
-use Prim.Native.Nat.{◌-◌, ◌<◌, ◌≤◌, suc, zero, ℕ}
+use Prim.Native.Nat.{◌+◌, ◌-◌, ◌<◌, ◌≤◌, suc, zero, ℕ}
 use borrow.Author.Tests.{le-leb, lt-leb}
 use mathlib.Core.List.{List, [], ◌++◌, ◌∷◌}
 use mathlib.Core.Path.{◌∙◌, ◌≡◌, refl}
@@ -7,9 +7,10 @@ use native.Mathlib.Nat.{not-suc-le-zero}
 use native.Mathlib.Numerals.{sub-one}
 use native.Mathlib.Omega.{arith}
 use Rattle.log_encoding.specs.Enumerate.{missed}
+use Rattle.mixed_table.specs.declared.Table.{Table}
 use Rattle.mixed_table.specs.Table.{SoundTable, cost_of, end_of, lit_of, loss_of, after_of, terms_of, top_of, walk_rows, walk_within}
 
-module _ (tab : List ℕ) (z : SoundTable tab) where
+module _ (tab : Table) (z : SoundTable tab) where
   -- any bound above the thresholds left gives the same clauses
   same : (f g j k s : ℕ) (p : List ℕ) → k < f → k < g → k ≤ top_of tab j → walk_within f tab k s p ≡ walk_within g tab k s p
   unfolding walk_within
@@ -64,10 +65,13 @@ module _ (tab : List ℕ) (z : SoundTable tab) where
           same 23 24 (terms_of tab (suc k) - 1) (after_of tab (suc k)) (s - cost_of tab (suc k)) (p ++ (lit_of tab (suc k) ∷ [])) (omega arith) (omega arith) (omega arith),
         )
 
-    pub walk_cut : (j k : ℕ) → 0 < k → k ≤ top_of tab j → s < loss_of tab k → s < cost_of tab k
-        → walk_rows tab k s p ≡ ((p ++ (lit_of tab k ∷ [])) ∷ []) ++ walk_rows tab (k - 1) s p
-    walk_cut j k y b h i = walk_more j k y b h ∙ rw (lt-leb (cost_of tab k) s i)
+    pub walk_cut : (j k : ℕ) → k + 1 ≤ top_of tab j → s < loss_of tab (k + 1) → s < cost_of tab (k + 1)
+        → walk_rows tab (k + 1) s p ≡ ((p ++ (lit_of tab (k + 1) ∷ [])) ∷ []) ++ walk_rows tab k s p
+    walk_cut j k b h i =
+        let one : k + 1 - 1 ≡ k = omega arith in walk_more j (k + 1) (omega arith) b h ∙ rw (lt-leb (cost_of tab (k + 1)) s i, one)
 
-    pub walk_on : (j k : ℕ) → 0 < k → k ≤ top_of tab j → s < loss_of tab k → cost_of tab k ≤ s
-        → walk_rows tab k s p ≡ walk_rows tab (after_of tab k) (s - cost_of tab k) (p ++ (lit_of tab k ∷ [])) ++ walk_rows tab (k - 1) s p
-    walk_on j k y b h i = walk_more j k y b h ∙ rw (le-leb (cost_of tab k) s i)
+    pub walk_on : (j k : ℕ) → k + 1 ≤ top_of tab j → s < loss_of tab (k + 1) → cost_of tab (k + 1) ≤ s
+        → walk_rows tab (k + 1) s p
+        ≡ walk_rows tab (after_of tab (k + 1)) (s - cost_of tab (k + 1)) (p ++ (lit_of tab (k + 1) ∷ [])) ++ walk_rows tab k s p
+    walk_on j k b h i =
+        let one : k + 1 - 1 ≡ k = omega arith in walk_more j (k + 1) (omega arith) b h ∙ rw (le-leb (cost_of tab (k + 1)) s i, one)

@@ -9,7 +9,7 @@ use std::ops::Not;
 #[derive(Clone, Copy)]
 pub struct Var(pub u32);
 
-#[derive(Clone, Copy)]
+#[derive(Clone, Copy, Default)]
 pub struct Lit(pub u32);
 
 impl Var {

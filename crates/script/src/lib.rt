@@ -71,7 +71,7 @@ fn answer<R: Print>(
     requires { Lent run lits.old ends.old }
     ensures { IfOk result (λ r. Lent r lits.new ends.new) }
 {
-    if lines::is_word(word, b"stores") {
+    if word.text() == Some(b"stores".as_slice()) {
         return run_stores(nums, run, lits, ends).ok_or(Stop::BadLine);
     }
     let lent = &mut lits[..run.lits];

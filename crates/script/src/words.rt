@@ -132,48 +132,6 @@ fn sized<R: Print>(
     Ok(())
 }
 
-// A word that leaves the job as it is, if it is one.
-fn kept<R: Print>(
-    rt: &R,
-    word: Word,
-    nums: &[i64],
-    env: EncoderEnv,
-    lits: &mut [u32],
-    ends: &mut [u32],
-) -> Option<Result<(), Stop>> {
-    if lines::is_word(word, b"clause") {
-        return Some(clause(rt, nums, env, lits, ends));
-    }
-    if lines::is_word(word, b"solution") {
-        return Some(lent(rt, nums, env, |text, slice| {
-            let solution = encoder::read_answer(env, lits, ends, text, slice)?;
-            Ok(i32::from(solution == Solution::Assignment))
-        }));
-    }
-    if lines::is_word(word, b"answer") {
-        return Some(lent(rt, nums, env, |assignment, slice| {
-            let size = encoder::print_answer(env, lits, ends, assignment, slice)?;
-            Ok(i32::try_from(size).unwrap_or(i32::MAX))
-        }));
-    }
-    if lines::is_word(word, b"size") {
-        return Some(sized(rt, script_calls::size(nums, env), env));
-    }
-    if lines::is_word(word, b"size_mul") {
-        return Some(sized(rt, script_calls::size_mul(nums, env), env));
-    }
-    if lines::is_word(word, b"lits") {
-        return Some(entry(nums, lits).ok_or(Stop::BadLine));
-    }
-    if lines::is_word(word, b"ends") {
-        return Some(entry(nums, ends).ok_or(Stop::BadLine));
-    }
-    if lines::is_word(word, b"show") {
-        return Some(show(rt, nums, env, lits, ends));
-    }
-    None
-}
-
 // Every word but `stores`: the job after the line.
 pub fn answer<R: Print>(
     rt: &R,
@@ -183,15 +141,24 @@ pub fn answer<R: Print>(
     lits: &mut [u32],
     ends: &mut [u32],
 ) -> Result<EncoderEnv, Stop> {
-    if lines::is_word(word, b"read") {
-        return printed(rt, script_calls::read(nums, env, lits, ends));
+    match word.text() {
+        Some(b"read") => return printed(rt, script_calls::read(nums, env, lits, ends)),
+        Some(b"job") => return job(nums),
+        Some(b"clause") => clause(rt, nums, env, lits, ends)?,
+        Some(b"solution") => lent(rt, nums, env, |text, slice| {
+            let solution = encoder::read_answer(env, lits, ends, text, slice)?;
+            Ok(i32::from(solution == Solution::Assignment))
+        })?,
+        Some(b"answer") => lent(rt, nums, env, |assignment, slice| {
+            let size = encoder::print_answer(env, lits, ends, assignment, slice)?;
+            Ok(i32::try_from(size).unwrap_or(i32::MAX))
+        })?,
+        Some(b"size") => sized(rt, script_calls::size(nums, env), env)?,
+        Some(b"size_mul") => sized(rt, script_calls::size_mul(nums, env), env)?,
+        Some(b"lits") => entry(nums, lits).ok_or(Stop::BadLine)?,
+        Some(b"ends") => entry(nums, ends).ok_or(Stop::BadLine)?,
+        Some(b"show") => show(rt, nums, env, lits, ends)?,
+        _ => return printed(rt, script_calls::call(word, nums, env, lits, ends)),
     }
-    if lines::is_word(word, b"job") {
-        return job(nums);
-    }
-    if let Some(answered) = kept(rt, word, nums, env, lits, ends) {
-        answered?;
-        return Ok(env);
-    }
-    printed(rt, script_calls::call(word, nums, env, lits, ends))
+    Ok(env)
 }

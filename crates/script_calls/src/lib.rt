@@ -101,23 +101,13 @@ pub fn call(
     lits: &mut [u32],
     ends: &mut [u32],
 ) -> Option<Called> {
-    if lines::is_word(word, b"open") {
-        return open(nums, lits, ends);
+    match word.text()? {
+        b"open" => open(nums, lits, ends),
+        b"range" => range(nums, env, lits, ends),
+        b"list" => list(nums, env, lits, ends),
+        b"binary" => binary(nums, env, lits, ends),
+        b"linear" => linear(nums, env, lits, ends),
+        b"mul" => mul(nums, env, lits, ends),
+        _ => None,
     }
-    if lines::is_word(word, b"range") {
-        return range(nums, env, lits, ends);
-    }
-    if lines::is_word(word, b"list") {
-        return list(nums, env, lits, ends);
-    }
-    if lines::is_word(word, b"binary") {
-        return binary(nums, env, lits, ends);
-    }
-    if lines::is_word(word, b"linear") {
-        return linear(nums, env, lits, ends);
-    }
-    if lines::is_word(word, b"mul") {
-        return mul(nums, env, lits, ends);
-    }
-    None
 }

@@ -1,13 +1,15 @@
 -- `log_adder::push_column` meets its contract.
 use native.Mathlib.Omega.{arith}
+use lib.ListN.{length, length-take}
+use Prim.Native.Nat.{◌+◌}
 use Rattle.log_adder.proofs.ColumnStored.{equated_added, equated_fits}
 use Rattle.log_adder.proofs.ColumnTerms.{column_equated, column_in_table, column_size}
 use Rattle.log_adder.proofs.push_column.Goals as goal
 
-pub encode_linear_eq_mixed_from_info-requires-clause-n_bound : goal.encode_linear_eq_mixed_from_info-requires-clause-n_bound
-encode_linear_eq_mixed_from_info-requires-clause-n_bound c =
+pub encode_linear_eq_mixed_from_info-requires-clause-in_table : goal.encode_linear_eq_mixed_from_info-requires-clause-in_table
+encode_linear_eq_mixed_from_info-requires-clause-in_table c =
     let z = c.requires.column_sized in
-    (omega (arith, z), omega (arith, z), rw c.infos.ensures.0 (column_in_table c.args.c z))
+    (omega (arith, z, length-take (length c.args.c.own.now + 3) c.infos.result), omega (arith, z), rw c.infos.ensures.0 (column_in_table c.args.c z))
 
 pub encode_linear_eq_mixed_from_info-requires-clause-fits : goal.encode_linear_eq_mixed_from_info-requires-clause-fits
 encode_linear_eq_mixed_from_info-requires-clause-fits c =

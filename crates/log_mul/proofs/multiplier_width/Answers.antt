@@ -18,4 +18,4 @@ returns-then-x-eq0 c =
 pub returns : goal.returns
 returns c =
     let a = c.args in
-    (c.larger.ensures ∙ width_some a.x a.y a.given (omega (arith, c.if-x-eq0.false)), omega (arith, c.larger.ensures, c.requires, c.if-x-eq0.false), omega (arith, c.larger.ensures))
+    (c.max.ensures ∙ width_some a.x a.y a.given (omega (arith, c.if-x-eq0.false)), omega (arith, c.max.ensures, c.requires, c.if-x-eq0.false), omega (arith, c.max.ensures))

@@ -1,20 +1,15 @@
--- `mixed::add_last` meets its contract. The loop's invariant: the literals of the first s slacks are in the table.
-use mathlib.Core.Path.{sym}
-use Prim.Native.Nat.{◌*◌}
-use native.Mathlib.Omega.{arith}
-use lib.ListN.{set}
+-- `mixed::add_last` meets its contract.
+use mathlib.Core.Path.{ap, refl}
+use Rattle.mixed_table.specs.declared.Table.{Table}
 use Rattle.mixed.proofs.Filling.{ends_none, ends_turn}
 use Rattle.mixed.proofs.add_last.Goals as goal
 
-pub loop-s-init : goal.loop-s-init
-loop-s-init c =
-    let a = c.args in
-    (omega arith, sym (ends_none (set a.tab.now 72 (a.t.weight * a.t.count)) a.t))
+pub loop-slack-init : goal.loop-slack-init
+loop-slack-init c = rw (ends_none c.args.tab.now.ends c.args.t) refl
 
-pub loop-s-preserved : goal.loop-s-preserved
-loop-s-preserved c =
-    let a = c.args in
-    let l = c.loop-s in (
-      omega arith,
-      ends_turn (set a.tab.now 72 (a.t.weight * a.t.count)) l.tab a.t l.s c.wide.result c.lit_at-l.result.0 l.invariant.1 c.wide.ensures.0 c.lit_at-l.ensures,
-    )
+pub loop-slack-preserved : goal.loop-slack-preserved
+loop-slack-preserved c =
+    let l = c.loop-slack in
+    let i = l.invariant in
+    let more = ends_turn c.args.tab.now.ends l.tab.ends c.args.t l.slack c.lit_at.result (ap (λ (x : Table). x.ends) i) c.lit_at.ensures in
+    rw (more, ap (λ (x : Table). x.rows) i, ap (λ (x : Table). x.tops) i) refl

@@ -8,9 +8,8 @@ use Rattle.mixed_table.specs.Table.{loss_of, top_of}
 use Rattle.mixed_table.proofs.Walk.{walk_covered}
 use Rattle.mixed_table.proofs.encode_table.Goals as goal
 
-pub returns-else-slack-all : goal.returns-else-slack-all
-returns-else-slack-all c =
-    let t = c.wide-top.ensures.0 in
-    let w = c.wide-all.ensures.0 in
-    let h : loss_of c.args.tab.now c.wide-top.result ≤ c.args.slack = omega (arith, w) in
-    wrote_as (wrote_nothing c.args.set.now) refl (sym (walk_covered c.args.tab.now c.requires.sound_table c.args.slack [] (top_of c.args.tab.now c.args.left) (rw t at h)))
+pub returns-else-slack-from : goal.returns-else-slack-from
+returns-else-slack-from c =
+    let a = c.args in
+    let h : loss_of a.tab.now (top_of a.tab.now a.left) ≤ a.slack = omega (arith, c.from.ensures, c.if-slack-from.false) in
+    wrote_as (wrote_nothing a.set.now) refl (sym (walk_covered a.tab.now c.requires.sound_table a.slack [] (top_of a.tab.now a.left) h))
