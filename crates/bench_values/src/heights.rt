@@ -19,7 +19,7 @@ pub fn sum_height(
     ensures { result ≡ sum_height env lits ends op constant terms.now }
 {
     match argument_checks(env, lits, ends, op, constant, terms) {
-        Ok(()) => turned_height(env.encodings, op, constant, terms),
+        Ok(()) => turned_height(&env.encodings, op, constant, terms),
         Err(_) => 0,
     }
 }

@@ -1,5 +1,5 @@
--- What adding clauses leaves in the stores: one list after another; a loop that adds.
-use mathlib.Core.Path.{◌≡◌, refl, ap, subst, sym, ◌∙◌}
+-- What adding clauses leaves in the stores: one list after another.
+use mathlib.Core.Path.{◌≡◌, refl, ap, sym, ◌∙◌}
 use mathlib.Core.List.{List, [], ◌∷◌, ◌++◌, map, map-append}
 use Prim.Native.Nat.{ℕ, min, suc, zero, ◌-◌, ◌≤◌, ◌+◌, ◌<◌}
 use native.Mathlib.Nat.{add-zero}
@@ -12,20 +12,13 @@ use Rattle.sat.proofs.Size.{entries_append}
 use Rattle.clause_set.specs.declared.Counts.{Counts}
 use Rattle.sat.specs.declared.Lit.{Lit}
 use Rattle.sat.specs.LitArray.{first_lits, num}
-use Rattle.clause_set.specs.Stores.{Stores, stores, after, add_clause, add_clauses, Fits}
+use Rattle.clause_set.specs.Stores.{Stores, stores, add_clause, add_clauses, Fits}
 
 pub sets_append : (a l : List ℕ) (i : ℕ) (b : List ℕ) → sets l i (a ++ b) ≡ sets (sets l i a) (i + length a) b
 sets_append [] l i b = rw add-zero
 sets_append (x ∷ a) l i b = sets_append a (set l i x) (suc i) b ∙ ap (λ (k : ℕ). sets (sets (set l i x) (suc i) a) k b) (omega arith)
 
--- a turn of the loop that stores a clause's elements
-pub sets_more : (l : List ℕ) (i : ℕ) (c : List ℕ) (k : ℕ) → k < length c
-    → set (sets l i (take k c)) (i + k) (get_or c k 0) ≡ sets l i (take (k + 1) c)
-sets_more l i c k h =
-    let e : length (take k c) ≡ k = length-take-le k c (omega arith) in
-    sym (rw (add-one, take-suc c k 0 h, sets_append, e))
-
--- the same for a slice of literals
+-- a turn of the loop that stores a clause's literals
 pub lits_more : (l : List ℕ) (i : ℕ) (c : List Lit) (k : ℕ) → k < length c
     → set (sets l i (map num (take k c))) (i + k) (get_or c k (record { 0 = 0 })).0 ≡ sets l i (map num (take (k + 1) c))
 lits_more l i c k h =
@@ -89,57 +82,6 @@ pub one_added : (b : ℕ) (s : Stores) (c d e : List ℕ) (end : ℕ) → d ≡ 
 unfolding add_clause
 one_added b s c d e end p q r = λ i. stores (p i) ((r ∙ ap (λ (x : ℕ). set s.ends (s.count + 1) (b + x)) q) i) (q i) (s.count + 1)
 
--- A loop that adds ---------------------------------------------------------------------------------------------------
-
--- What is left to do: to add `rest` to the stores as they are now comes to what adding `all` to them as they were would have given.
-pub record Going (b : ℕ) (d₀ e₀ : List ℕ) (a₀ : Counts) (all : List (List ℕ)) (d e : List ℕ) (a : Counts) (rest : List (List ℕ)) : Type 0 where
-  pub same : add_clauses b all (after d₀ e₀ a₀) ≡ add_clauses b rest (after d e a)
-  pub fits : Fits b a rest
-  pub lits_long : length d ≡ length d₀
-  pub ends_long : length e ≡ length e₀
-
-pub going_start : {b : ℕ} {d e : List ℕ} {a : Counts} (cs : List (List ℕ)) → Fits b a cs → Going b d e a cs d e a cs
-going_start cs f = record { same = refl; fits = f; lits_long = refl; ends_long = refl }
-
--- what is left at the start, in a loop's own terms
-pub going_restart : {b : ℕ} {d e : List ℕ} {a : Counts} {all rest : List (List ℕ)} → all ≡ rest → Fits b a all → Going b d e a all d e a rest
-going_restart {b} {d} {e} {a} {all} p f = subst (Going b d e a all d e a) p (going_start all f)
-
--- nothing is left
-pub going_end : {b : ℕ} {d₀ e₀ d e : List ℕ} {a₀ a : Counts} {all rest : List (List ℕ)} → Going b d₀ e₀ a₀ all d e a rest → rest ≡ []
-    → after d e a ≡ add_clauses b all (after d₀ e₀ a₀)
-going_end {b} {d = d} {e = e} {a = a} g p = sym (g.same ∙ ap (λ cs. add_clauses b cs (after d e a)) p)
-
-module _ {b : ℕ} {d₀ e₀ d e : List ℕ} {a₀ a : Counts} {all now : List (List ℕ)} (cs rest : List (List ℕ)) (split : now ≡ cs ++ rest) (g : Going b d₀ e₀ a₀ all d e a now) where
-  pub going_fits : Fits b a cs
-  going_fits =
-      let t : entries now ≡ entries cs + entries rest = ap entries split ∙ entries_append cs rest in
-      let l : length now ≡ length cs + length rest = ap length split ∙ length-append cs rest in
-      let f = g.fits in
-      record { lits = omega arith; clauses = omega arith }
-
-  pub going_turn : {d₁ e₁ : List ℕ} (a₁ : Counts) → length d₁ ≡ length d → length e₁ ≡ length e
-      → after d₁ e₁ a₁ ≡ add_clauses b cs (after d e a) → Going b d₀ e₀ a₀ all d₁ e₁ a₁ rest
-  going_turn {d₁} {e₁} a₁ p q w =
-      let t : entries now ≡ entries cs + entries rest = ap entries split ∙ entries_append cs rest in
-      let l : length now ≡ length cs + length rest = ap length split ∙ length-append cs rest in
-      let f = g.fits in
-      let u : a₁.lits ≡ a.lits + entries cs = ap (λ (s : Stores). s.used) w ∙ used_after b cs (after d e a) in
-      let v : a₁.clauses ≡ a.clauses + length cs = ap (λ (s : Stores). s.count) w ∙ count_after b cs (after d e a) in
-      record {
-        same = g.same ∙ ap (λ (xs : List (List ℕ)). add_clauses b xs (after d e a)) split ∙ add_append b cs rest (after d e a) ∙ ap (add_clauses b rest) (sym w);
-        fits = record { lits = omega arith; clauses = omega arith };
-        lits_long = p ∙ g.lits_long;
-        ends_long = q ∙ g.ends_long;
-      }
-
--- two lists of clauses one after the other
-module _ {b : ℕ} {a : Counts} (cs ds : List (List ℕ)) (f : Fits b a (cs ++ ds)) where
-  pub fits_first : Fits b a cs
-  fits_first = going_fits cs ds refl (going_start {d = []} {e = []} (cs ++ ds) f)
-
-  pub fits_then : (d e : List ℕ) {d₁ e₁ : List ℕ} {a₁ : Counts} → after d₁ e₁ a₁ ≡ add_clauses b cs (after d e a) → Fits b a₁ ds
-  fits_then d e {a₁ = a₁} w =
-      let u : a₁.lits ≡ a.lits + entries cs = ap (λ (s : Stores). s.used) w ∙ used_after b cs (after d e a) in
-      let v : a₁.clauses ≡ a.clauses + length cs = ap (λ (s : Stores). s.count) w ∙ count_after b cs (after d e a) in
-      record { lits = omega (arith, f.lits, entries_append cs ds); clauses = omega (arith, f.clauses, length-append cs ds) }
+-- the first of two lists of clauses fits where both do
+pub fits_first : {b : ℕ} {a : Counts} (cs ds : List (List ℕ)) → Fits b a (cs ++ ds) → Fits b a cs
+fits_first cs ds f = record { lits = omega (arith, f.lits, entries_append cs ds); clauses = omega (arith, f.clauses, length-append cs ds) }

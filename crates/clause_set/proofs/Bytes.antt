@@ -3,8 +3,7 @@
 -- `bytes_unique`).
 use Prim.Native.Nat.{◌*◌, ◌/◌, ◌%◌, ◌<◌, ◌≤◌, suc, zero, ℕ}
 use lib.Dec.{eqb}
-use lib.ListN.{get_or-eq_default, drop, get_or, length}
-use lib.Seq.{drop-cons}
+use lib.ListN.{get_or-eq_default, get_or, length}
 use mathlib.Core.Bool.{Bool, ◌&&◌, ◌||◌, cond, false, not, true}
 use mathlib.Core.List.{List, [], ◌∷◌}
 use mathlib.Core.Path.{◌∙◌, ◌≡◌, ap, ap₂, refl, sym}
@@ -34,14 +33,6 @@ pub holds_in : (bytes : List ℕ) (l v : ℕ) (n : Bool) → v ≡ var l → is_
     → eqb (get_or bytes v 0) (cond n 0 1) ≡ lit_holds bytes l
 unfolding lit_holds
 holds_in bytes l v n e f h = rw (← e, f) (ap (λ b. eqb b (cond n 0 1)) (getD_within bytes v 0 2 h))
-
--- a clause from place i on
-pub holds_here : (bytes c : List ℕ) (i : ℕ) → i < length c → lit_holds bytes (get_or c i 0) ≡ true → true ≡ clause_holds bytes (drop i c)
-holds_here bytes c i h e = sym (rw (drop-cons c i 0 h, e))
-
-pub holds_later : (bytes c : List ℕ) (i : ℕ) → i < length c → lit_holds bytes (get_or c i 0) ≡ false
-    → clause_holds bytes (drop i c) ≡ clause_holds bytes (drop (suc i) c)
-holds_later bytes c i h e = rw (drop-cons c i 0 h, e)
 
 -- The truth values of bytes ------------------------------------------------------------------------------------------
 

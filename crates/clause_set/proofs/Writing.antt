@@ -1,16 +1,17 @@
 -- What writing leaves in a set of clauses: one list of clauses after another; a loop that writes.
 use mathlib.Core.Path.{◌≡◌, refl, ap, sym, ◌∙◌}
-use mathlib.Core.List.{List, [], ◌++◌}
+use mathlib.Core.List.{List, [], ◌++◌, ◌∷◌}
 use Prim.Native.Nat.{ℕ, ◌+◌}
 use native.Mathlib.Omega.{arith}
-use lib.ListN.{length, length-append}
+use lib.ListN.{length, length-append, set}
+use lib.Seq.{sets}
 use Rattle.sat.specs.Clause.{Clauses}
 use Rattle.sat.specs.Size.{entries}
 use Rattle.sat.proofs.Size.{entries_append}
 use Rattle.clause_set.specs.declared.ClauseSet.{ClauseSet}
 use Rattle.clause_set.specs.declared.Counts.{Counts}
-use Rattle.clause_set.specs.Stores.{Fits, Stores, Wrote, add_clauses, after, stores_of}
-use Rattle.clause_set.proofs.Adding.{add_append, count_after, used_after}
+use Rattle.clause_set.specs.Stores.{Closed, Fits, Stores, Wrote, add_clauses, after, stores, stores_of}
+use Rattle.clause_set.proofs.Adding.{add_append, count_after, one_added, used_after}
 
 pub wrote_nothing : (s : ClauseSet) → Wrote s s.vars [] s
 wrote_nothing s = record { same_lits = refl; same_ends = refl; same_base = refl; vars_are = refl; stores_are = refl }
@@ -53,6 +54,26 @@ module _ {s : ClauseSet} {v : ℕ} {cs : Clauses} {t : ClauseSet} (p : Wrote s v
         lits = omega (arith, f.lits, entries_append cs ds, wrote_lits, p.same_base);
         clauses = omega (arith, f.clauses, length-append cs ds, wrote_clauses);
       }
+
+-- One clause whose literals were stored, and which was closed.
+pub closed_clause : {s t u : ClauseSet} {n : ℕ} (c : List ℕ) → Closed t n u → n ≡ length c
+    → t.lits.ghost_name ≡ s.lits.ghost_name → t.lits.now ≡ sets s.lits.now s.used.lits c
+    → t.ends ≡ s.ends → t.base ≡ s.base → t.vars ≡ s.vars → t.used ≡ s.used → Wrote s s.vars (c ∷ []) u
+closed_clause {s} {t} {u} {n} c w long name lits ends base vars used =
+    let at : t.used.lits ≡ s.used.lits = ap (λ (a : Counts). a.lits) used in
+    let k : t.used.clauses ≡ s.used.clauses = ap (λ (a : Counts). a.clauses) used in
+    let end : u.used.lits ≡ s.used.lits + n = w.lits_used ∙ ap (λ x. x + n) at in
+    let count : u.used.clauses ≡ s.used.clauses + 1 = w.clauses_used ∙ ap (λ x. x + 1) k in
+    record {
+      same_lits = w.same_lits ∙ name;
+      same_ends = w.same_ends ∙ (λ i. (ends i).ghost_name);
+      same_base = w.same_base ∙ base;
+      vars_are = w.same_vars ∙ vars;
+      stores_are =
+          (λ i. stores (u.lits.now) (u.ends.now) (end i) (count i))
+          ∙ one_added s.base (stores_of s) c u.lits.now u.ends.now (s.used.lits + n) (w.lits_are ∙ lits) (ap (λ x. s.used.lits + x) long)
+          (w.ends_are ∙ (λ i. set ((ends i).now) (k i + 1) (base i + (at i + n))));
+    }
 
 -- Where a set is made of two slices and given up, the slices have what was written: each is what the reference of its name holds.
 pub given_back : {s : ClauseSet} {v : ℕ} {cs : Clauses} {t : ClauseSet} {d e : List ℕ} → Wrote s v cs t

@@ -56,6 +56,17 @@ Added s = Wrote s s.vars
 abbrev pub AddedRule : ClauseSet → EncodedRule → ClauseSet → Type 0
 AddedRule s rule = Wrote s rule.vars rule.clauses
 
+-- The set u is s with one clause more, of the n literals that stand behind those in use.
+pub record Closed (s : ClauseSet) (n : ℕ) (u : ClauseSet) : Type 0 where
+  pub same_lits : u.lits.ghost_name ≡ s.lits.ghost_name
+  pub same_ends : u.ends.ghost_name ≡ s.ends.ghost_name
+  pub same_base : u.base ≡ s.base
+  pub same_vars : u.vars ≡ s.vars
+  pub lits_are : u.lits.now ≡ s.lits.now
+  pub ends_are : u.ends.now ≡ set s.ends.now (s.used.clauses + 1) (s.base + (s.used.lits + n))
+  pub lits_used : u.used.lits ≡ s.used.lits + n
+  pub clauses_used : u.used.clauses ≡ s.used.clauses + 1
+
 -- fewer than m clauses, and ends below m
 abbrev pub Below : ℕ → ClauseSet → Type 0
 Below m s = (s.base + s.used.lits < m) × (s.used.clauses < m)

@@ -7,7 +7,7 @@ ghost use Rattle.sat.specs.Lit.{as_lit};
 ghost use Rattle.sat.specs.LitArray.{num};
 ghost use Rattle.clause_set.specs.Bytes.{clause_holds, lit_holds};
 ghost use Rattle.clause_set.specs.Clause.{clause_lits};
-ghost use Rattle.clause_set.specs.Stores.{Added, Fits, Within, Wrote, add_clauses, after, part};
+ghost use Rattle.clause_set.specs.Stores.{Added, Closed, Fits, Within, Wrote, part};
 
 use sat::{Lit, Var};
 
@@ -54,11 +54,20 @@ impl ClauseSet<'_> {
         for (i, l) in clause[..stored].iter().enumerate() {
             lits[from + i] = l.0;
         }
+        self.close(n);
+    }
+
+    // Makes a clause of the n literals that stand behind those in use.
+    pub fn close(&mut self, n: usize)
+        requires { (self.old.base + (self.old.used.lits + n) < 2 ^ 32) × (self.old.used.clauses + 2 < 2 ^ 32) }
+        ensures { Closed self.old n self.new }
+    {
         let k = self.used.clauses;
-        put(self.ends, k + 1, self.base + (from + n) as u32);
+        let end = self.used.lits + n;
+        put(self.ends, k + 1, self.base + end as u32);
         self.used = Counts {
             clauses: k + 1,
-            lits: from + n,
+            lits: end,
         };
     }
 }
@@ -136,22 +145,6 @@ pub fn within(n: usize, long: usize) -> usize
     ensures { (result ≤ long) × Within n long result }
 {
     n.min(long)
-}
-
-// Adds a clause to stores that are no set yet, at the counts.
-pub fn push(lits: &mut [u32], ends: &mut [u32], clause: &[Lit], base: u32, at: Counts) -> Counts
-    requires fits { Fits base at (map num clause.now ∷ []) }
-    ensures { after lits.new ends.new result ≡ add_clauses base (map num clause.now ∷ []) (after lits.old ends.old at) }
-{
-    let mut set = ClauseSet {
-        lits,
-        ends,
-        base,
-        vars: 0,
-        used: at,
-    };
-    set.push(clause);
-    set.used
 }
 
 // A clause, handed back as the part of the literal store from the end before it to its own.

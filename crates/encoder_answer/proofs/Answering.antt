@@ -8,19 +8,20 @@ use Rattle.std.specs.Prelude.{Option, None, Some, Result, Ok, Err}
 use Rattle.sat.specs.Clause.{Clauses}
 use Rattle.sat.specs.Size.{entries}
 use Rattle.clause_set.specs.declared.Counts.{Counts}
-use Rattle.clause_set.specs.Stores.{Stores, add_clauses, after, stores}
+use Rattle.clause_set.specs.Stores.{AddedRule, Stores, add_clauses, after, stores, stores_of}
+use Rattle.clause_set.specs.declared.ClauseSet.{ClauseSet}
+use Rattle.clause_set.proofs.Writing.{given_back, wrote_as}
 use Rattle.clause_set.proofs.Adding.{count_after, used_after}
 use Rattle.sat.specs.Encoded.{EncodedRule}
 use Rattle.log_linear.specs.Added.{RuleOutcome, add_rule, rule_outcome}
-use Rattle.log_linear.specs.declared.RuleCounts.{RuleCounts}
 use Rattle.log_var.specs.declared.LogEncoding.{LogEncoding}
 use Rattle.refusal.specs.Number.{number}
 use Rattle.refusal.specs.declared.Refusal.{Refusal}
 use Rattle.encoder_env.specs.declared.EncoderEnv.{EncoderEnv}
 use Rattle.encoder_env.proofs.Kept.{kept}
 use Rattle.encoder_answer.specs.declared.Written.{Written}
-use Rattle.encoder_answer.specs.Adding.{adding_status, counts_of, grown, job_with, space_checks, space_for}
-use Rattle.encoder_answer.specs.Call.{Addition, Fits, JobAddition, JobChecks, Settles, CallWrote, call_outcome, job_added, job_after, rule, with_setting}
+use Rattle.encoder_answer.specs.Adding.{adding_status, grown, job_with, space_checks, space_for}
+use Rattle.encoder_answer.specs.Call.{Addition, Fits, JobAddition, JobChecks, Settles, CallWrote, JobSet, StoresWrote, call_outcome, job_added, job_after, rule, with_setting}
 use Rattle.encoder_answer.specs.Outcome.{Answers, Check, adds, status_of}
 use Rattle.encoder_answer.proofs.Adding.{accepted}
 use Rattle.encoder_answer.proofs.Statuses.{accepts, refuses, stops, then_rest, number_some}
@@ -56,7 +57,7 @@ module _ (asks : JobChecks) (gives : JobAddition) (env : EncoderEnv) (lits ends 
   Answered r = Answers (call_outcome asks gives env lits ends) (adds env r)
 
   -- the counts are those of the job after the call
-  sized : (d e : List ℕ) {new : Written} {d₁ e₁ : List ℕ} → CallWrote env a d e new d₁ e₁ → job_with env new.vars new.used ≡ grown env a.vars a.clauses
+  sized : (d e : List ℕ) {new : Written} {d₁ e₁ : List ℕ} → StoresWrote env a d e new d₁ e₁ → job_with env new.vars new.used ≡ grown env a.vars a.clauses
   sized d e w = let n = counted a.clauses (stores d e env.literals env.clauses) w.clauses in rw (w.vars, n.0, n.1)
 
   -- its own checks refuse it
@@ -65,7 +66,7 @@ module _ (asks : JobChecks) (gives : JobAddition) (env : EncoderEnv) (lits ends 
       let some = number_some x in
       refuses all env lits ends _ x (h ∙ sym (stops checks (space_for env (length lits) (length ends) job.variables a.clauses) (λ z. omega arith)))
 
-  module _ (z : 0 ≡ status_of checks) (size : Written) {d₁ e₁ : List ℕ} (w : CallWrote env a [] [] size d₁ e₁) where
+  module _ (z : 0 ≡ status_of checks) (size : Written) {d₁ e₁ : List ℕ} (w : StoresWrote env a [] [] size d₁ e₁) where
     -- the number of all checks is that of space
     of_space : status_of (space_checks size.vars size.used.lits size.used.clauses (length lits) (length ends)) ≡ all
     of_space =
@@ -80,7 +81,7 @@ module _ (asks : JobChecks) (gives : JobAddition) (env : EncoderEnv) (lits ends 
 
     -- it was written
     module _ (s : 0 ≡ status_of (space_checks size.vars size.used.lits size.used.clauses (length lits) (length ends)))
-        (new : Written) {lits₁ ends₁ : List ℕ} (wrote : CallWrote env a lits ends new lits₁ ends₁) where
+        (new : Written) {lits₁ ends₁ : List ℕ} (wrote : StoresWrote env a lits ends new lits₁ ends₁) where
       pub fits : Fits env new
       fits =
           let c = accepted checks env lits ends a.clauses job t.numbered (sym (s ∙ of_space)) in
@@ -104,14 +105,32 @@ module _ (asks : JobChecks) (gives : JobAddition) (env : EncoderEnv) (lits ends 
             ends = ap (λ (x : Stores). x.ends) wrote.clauses;
           })
 
--- a rule that was written, by its own clause
-pub rule_wrote : (env : EncoderEnv) (out : EncodedRule) (lits ends : List ℕ) {at : Counts} → at ≡ counts_of env → {lits₁ ends₁ : List ℕ} {new : RuleCounts}
-    → rule_outcome lits₁ ends₁ new ≡ add_rule out (after lits ends at) → {w : Written} → w ≡ record { vars = new.vars; used = new.used; setting = None }
-    → CallWrote env (rule out) lits ends w lits₁ ends₁
-rule_wrote env out lits ends k w e =
-    rw e
+-- a rule that was written into a set of the job's stores
+pub rule_wrote : {written out : EncodedRule} {s t : ClauseSet} → AddedRule s written t → written ≡ out → CallWrote (rule out) s None t
+rule_wrote w e = record { wrote = wrote_as w (ap (λ (r : EncodedRule). r.vars) e) (ap (λ (r : EncodedRule). r.clauses) e); setting = refl }
+
+-- a rule that was written into the two stores of such a set, and counted
+pub rule_stored : (out : EncodedRule) {env : EncoderEnv} {s t : ClauseSet} → JobSet env s → t.lits.ghost_name ≡ s.lits.ghost_name
+    → t.ends.ghost_name ≡ s.ends.ghost_name → t.base ≡ s.base → rule_outcome t.lits.now t.ends.now (record { vars = t.vars; used = t.used }) ≡ add_rule out (stores_of s)
+    → CallWrote (rule out) s None t
+rule_stored out {s = s} j lits ends base w =
+    rule_wrote
     (record {
-      clauses = ap (λ (o : RuleOutcome). o.stores) w ∙ ap (λ (c : Counts). add_clauses 0 out.clauses (after lits ends c)) k;
-      vars = ap (λ (o : RuleOutcome). o.vars) w;
-      setting = refl;
+      same_lits = lits;
+      same_ends = ends;
+      same_base = base;
+      vars_are = ap (λ (o : RuleOutcome). o.vars) w;
+      stores_are = ap (λ (o : RuleOutcome). o.stores) w ∙ ap (λ b. add_clauses b out.clauses (stores_of s)) (sym j.base);
     })
+    refl
+
+-- a call that wrote into a set made of two slices, which then have what it wrote
+pub stores_wrote : (env : EncoderEnv) (a : Addition) {s t : ClauseSet} {r : Option LogEncoding} {d e : List ℕ} → CallWrote a s r t → JobSet env s
+    → (s.lits.ghost_name ≡ t.lits.ghost_name → d ≡ t.lits.now) → (s.ends.ghost_name ≡ t.ends.ghost_name → e ≡ t.ends.now)
+    → StoresWrote env a s.lits.now s.ends.now (record { vars = t.vars; used = t.used; setting = r }) d e
+stores_wrote env a {s} w j f g =
+    record {
+      clauses = given_back w.wrote f g ∙ (λ i. add_clauses (j.base i) a.clauses (after s.lits.now s.ends.now (j.used i)));
+      vars = w.wrote.vars_are;
+      setting = w.setting;
+    }

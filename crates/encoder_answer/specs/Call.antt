@@ -2,12 +2,13 @@
 use Rattle.std.specs.Prelude.{◌<◌, ◌^◌, ◌≡◌, ℕ, length, List, Option, None, Some, true}
 use Rattle.sat.specs.Clause.{Clauses}
 use Rattle.sat.specs.Encoded.{EncodedRule}
-use Rattle.clause_set.specs.Stores.{add_clauses, after, stores}
+use Rattle.clause_set.specs.Stores.{Wrote, add_clauses, after, stores}
+use Rattle.clause_set.specs.declared.ClauseSet.{ClauseSet}
 use Rattle.log_var.specs.declared.LogEncoding.{LogEncoding}
 use Rattle.encoder_env.specs.declared.EncoderEnv.{EncoderEnv}
 use Rattle.encoder_env.specs.WellFormed.{well_formed}
 use Rattle.encoder_answer.specs.declared.Written.{Written}
-use Rattle.encoder_answer.specs.Adding.{adding, grown, job_with, with_record}
+use Rattle.encoder_answer.specs.Adding.{adding, counts_of, grown, job_with, with_record}
 use Rattle.encoder_answer.specs.Outcome.{Check, Numbered, Outcome, status_of}
 
 -- the clauses, the variable count after them, and the record of a new setting
@@ -52,8 +53,19 @@ pub record Settles (env : EncoderEnv) (lits ends : ℕ) (checks : List Check) (a
 abbrev pub Passed : (ℕ → ℕ → List Check) → Type 0
 Passed checks = (lits : ℕ) × (ends : ℕ) × (status_of (checks lits ends) ≡ 0)
 
--- the clauses stand behind those in use, as far as the stores are long
-pub record CallWrote (env : EncoderEnv) (a : Addition) (lits ends : List ℕ) (new : Written) (lits-after ends-after : List ℕ) : Type 0 where
+-- a set of stores that begins with the job's counts
+pub record JobSet (env : EncoderEnv) (s : ClauseSet) : Type 0 where
+  pub base : s.base ≡ 0
+  pub vars : s.vars ≡ env.variables
+  pub used : s.used ≡ counts_of env
+
+-- the set t is s with what the call gives, and r the record of a new setting
+pub record CallWrote (a : Addition) (s : ClauseSet) (r : Option LogEncoding) (t : ClauseSet) : Type 0 where
+  pub wrote : Wrote s a.vars a.clauses t
+  pub setting : r ≡ a.setting
+
+-- the clauses stand in the stores behind those in use, as far as these are long
+pub record StoresWrote (env : EncoderEnv) (a : Addition) (lits ends : List ℕ) (new : Written) (lits-after ends-after : List ℕ) : Type 0 where
   pub clauses : after lits-after ends-after new.used ≡ add_clauses 0 a.clauses (stores lits ends env.literals env.clauses)
   pub vars : new.vars ≡ a.vars
   pub setting : new.setting ≡ a.setting

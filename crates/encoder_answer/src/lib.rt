@@ -1,16 +1,15 @@
 // What the public calls answer, and what those that add have in common: the checks of space, the writing and the job after it.
 #![tactic(auto)]
 
-ghost use Rattle.std.specs.Prelude.{◌≡◌, ◌^◌, ◌<◌, None, Some};
+ghost use Rattle.std.specs.Prelude.{◌≡◌, ◌^◌, ◌<◌};
 ghost use Rattle.refusal.specs.Number.{status};
 ghost use Rattle.encoder_answer.specs.Outcome.{Answers, adds, status_of};
 ghost use Rattle.encoder_answer.specs.Adding.{counts_of, job_with, space_checks, with_record};
-ghost use Rattle.encoder_answer.specs.Call.{Fits, JobAddition, JobChecks, Passed, Settles, CallWrote, call_outcome, job_after};
+ghost use Rattle.encoder_answer.specs.Call.{CallWrote, Fits, JobAddition, JobChecks, JobSet, Passed, Settles, StoresWrote, call_outcome, job_after};
 
-use clause_set::Counts;
+use clause_set::{ClauseSet, Counts};
 use encoder_env::EncoderEnv;
-use log_linear::RuleCounts;
-use log_var::{EncodedVar, LogEncoding};
+use log_var::LogEncoding;
 use refusal::Refusal;
 
 // The clauses and literals in use.
@@ -67,34 +66,10 @@ pub fn with_record(env: EncoderEnv, e: LogEncoding) -> EncoderEnv
 
 // What a call wrote: the counts of variables and of the stores after it, and the record of a new setting.
 #[derive(Clone, Copy)]
-pub struct Written {
-    pub vars: u32,
-    pub used: Counts,
-    pub setting: Option<LogEncoding>,
-}
-
-impl From<RuleCounts> for Written {
-    ghost from_gives = { λ r w. w ≡ record { vars = r.vars; used = r.used; setting = None } };
-
-    fn from(new: RuleCounts) -> Written {
-        Written {
-            vars: new.vars,
-            used: new.used,
-            setting: None,
-        }
-    }
-}
-
-impl From<EncodedVar> for Written {
-    ghost from_gives = { λ r w. w ≡ record { vars = r.vars; used = r.used; setting = Some r.encoding } };
-
-    fn from(new: EncodedVar) -> Written {
-        Written {
-            vars: new.vars,
-            used: new.used,
-            setting: Some(new.encoding),
-        }
-    }
+struct Written {
+    vars: u32,
+    used: Counts,
+    setting: Option<LogEncoding>,
 }
 
 // The job after what a call wrote.
@@ -119,9 +94,36 @@ pub trait AddingCall {
         ensures number { status result ≡ status_of (asks self.now env lits ends) }
         ensures settles { Settles env lits ends (asks self.now env lits ends) (gives self.now env) };
 
-    fn write(&self, env: EncoderEnv, lits: &mut [u32], ends: &mut [u32]) -> Written
-        requires { Passed (asks self.now env) }
-        ensures { CallWrote env (gives self.now env) lits.old ends.old result lits.new ends.new };
+    // The clauses, into a set of the job's stores, and the record of a new setting.
+    fn write(&self, env: EncoderEnv, set: &mut ClauseSet<'_>) -> Option<LogEncoding>
+        requires job { JobSet env set.old }
+        requires passed { Passed (asks self.now env) }
+        ensures { CallWrote (gives self.now env) set.old result set.new };
+}
+
+// What a call writes into stores behind the counts in use: past a store's end it is only counted.
+fn write_into<A: AddingCall>(
+    call: &A,
+    env: EncoderEnv,
+    lits: &mut [u32],
+    ends: &mut [u32],
+) -> Written
+    requires { Passed (A.asks call.now env) }
+    ensures { StoresWrote env (A.gives call.now env) lits.old ends.old result lits.new ends.new }
+{
+    let mut set = ClauseSet {
+        lits,
+        ends,
+        base: 0,
+        vars: env.variables,
+        used: counts_of(env),
+    };
+    let setting = call.write(env, &mut set);
+    Written {
+        vars: set.vars,
+        used: set.used,
+        setting,
+    }
 }
 
 // Makes a call: where its checks hold, what it takes is counted with nothing lent, and it is written where that has space.
@@ -136,8 +138,8 @@ pub fn add<A: AddingCall>(
     call.check(env, lits.len(), ends.len())?;
     let mut no_lits = [0u32; 0];
     let mut no_ends = [0u32; 0];
-    let size = call.write(env, &mut no_lits, &mut no_ends);
+    let size = write_into(call, env, &mut no_lits, &mut no_ends);
     space_checks(size.vars, size.used, lits.len(), ends.len())?;
-    let new = call.write(env, lits, ends);
+    let new = write_into(call, env, lits, ends);
     Ok(job_after(env, new))
 }

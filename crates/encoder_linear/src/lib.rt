@@ -7,9 +7,11 @@ ghost use Rattle.encoder_answer.specs.Call.{rule};
 ghost use Rattle.encoder_answer.specs.Outcome.{Answers, adds, status_of};
 ghost use Rattle.encoder_linear.specs.Sums.{argument_checks, coef_fits, coefs_fit, constant_fits, linear_checks, linear_outcome, setting_known, settings_known, settings_rise, sum_encoded, terms_paired};
 
-use encoder_answer::{AddingCall, Written, add, counts_of};
+use clause_set::ClauseSet;
+use encoder_answer::{AddingCall, add};
 use encoder_env::{EncoderEnv, well_formed};
 use log_turned::{encode_turned, turned_height};
+use log_var::LogEncoding;
 use refusal::Refusal;
 
 // Whether no setting lacks its coefficient, and there are at most six terms.
@@ -145,7 +147,7 @@ fn linear_checks(
     ensures { status result ≡ status_of (linear_checks env lits ends op constant terms.now) }
 {
     argument_checks(env, lits, ends, op, constant, terms)?;
-    if 12 < turned_height(env.encodings, op, constant, terms) {
+    if 12 < turned_height(&env.encodings, op, constant, terms) {
         return Err(Refusal::ColumnTooTall);
     }
     Ok(())
@@ -168,19 +170,9 @@ impl AddingCall for Sum<'_> {
         linear_checks(env, lits, ends, self.op, self.constant, self.terms)
     }
 
-    fn write(&self, env: EncoderEnv, lits: &mut [u32], ends: &mut [u32]) -> Written {
-        let at = counts_of(env);
-        let new = encode_turned(
-            lits,
-            ends,
-            env.encodings,
-            self.op,
-            self.constant,
-            self.terms,
-            env.variables,
-            at,
-        );
-        Written::from(new)
+    fn write(&self, env: EncoderEnv, set: &mut ClauseSet<'_>) -> Option<LogEncoding> {
+        encode_turned(set, &env.encodings, self.op, self.constant, self.terms);
+        None
     }
 }
 

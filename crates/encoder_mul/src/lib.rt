@@ -7,9 +7,11 @@ ghost use Rattle.encoder_answer.specs.Call.{rule};
 ghost use Rattle.encoder_answer.specs.Outcome.{Answers, adds, status_of};
 ghost use Rattle.encoder_mul.specs.Products.{argument_checks, mul_checks, mul_outcome, product_encoded};
 
-use encoder_answer::{AddingCall, Written, add, counts_of};
+use clause_set::ClauseSet;
+use encoder_answer::{AddingCall, add};
 use encoder_env::{EncoderEnv, well_formed};
 use log_product::{encode_mul_log, mul_height};
+use log_var::LogEncoding;
 use refusal::Refusal;
 
 // The checks of a product, but for heights and space.
@@ -73,19 +75,15 @@ impl AddingCall for Product {
         mul_checks(env, lits, ends, self.x, self.y, self.m)
     }
 
-    fn write(&self, env: EncoderEnv, lits: &mut [u32], ends: &mut [u32]) -> Written {
-        let at = counts_of(env);
-        let new = encode_mul_log(
-            lits,
-            ends,
-            env.encodings,
-            self.x,
-            self.y,
-            self.m,
-            env.variables,
-            at,
-        );
-        Written::from(new)
+    fn write(&self, env: EncoderEnv, set: &mut ClauseSet<'_>) -> Option<LogEncoding> {
+        let vars = set.vars;
+        let at = set.used;
+        let lits = &mut *set.lits;
+        let ends = &mut *set.ends;
+        let new = encode_mul_log(lits, ends, env.encodings, self.x, self.y, self.m, vars, at);
+        set.vars = new.vars;
+        set.used = new.used;
+        None
     }
 }
 

@@ -53,13 +53,13 @@ module _ (env : EncoderEnv) (lits ends : List ℕ) (repr : IntVarRepresentation)
 
   module _ (a : Added) (long : length env.encodings ≡ 32) where
     pub encodes : EncodesVar env.variables repr out
-    encodes = encode_var_log_encodes env.variables repr a.had.ready.encodable
+    encodes = encode_var_log_encodes env.variables repr a.had.encodable
 
     converts : Converts repr out
     converts =
         record {
           to_code = λ α z d.
-              let c = value_to_code env.variables repr a.had.ready.encodable α z d in
+              let c = value_to_code env.variables repr a.had.encodable α z d in
               (omega (arith, c.0, shl_power (length out.encoding.lits)), c.1);
           to_value = λ α h. ((encodes.admits α).0 h, code_value out.encoding.offset (code_of α out.encoding.lits));
         }
@@ -101,7 +101,7 @@ module _ (env : EncoderEnv) (lits ends : List ℕ) (repr : IntVarRepresentation)
         go true e =
             let k = eqb-true i env.count e in
             rw (k, new_record, lt-ltb env.count (env.count + 1) (omega arith))
-            (record_fits out.vars out.encoding (recorded env.variables repr a.had.ready.encodable a.had.ready.low) encodes.lits_below)
+            (record_fits out.vars out.encoding (recorded env.variables repr a.had.encodable a.had.low) encodes.lits_below)
         go false e =
             let n = eqb-false i env.count e in
             subst (Test (ltb i (env.count + 1))) (sym (old_record i n))

@@ -1,5 +1,5 @@
 -- What the leaf functions of a setting call say of its outcome.
-use mathlib.Core.Path.{◌≡◌, ◌∙◌, ap, refl, sym}
+use mathlib.Core.Path.{◌≡◌, ◌∙◌, ap, refl, subst, sym}
 use mathlib.Core.Bool.{◌&&◌, cond, false≢true, true}
 use mathlib.Core.List.{List, [], ◌∷◌}
 use Prim.Native.Nat.{◌*◌, ◌+◌, ◌-◌, ◌<◌, ◌≤◌, suc, ℕ}
@@ -15,22 +15,22 @@ use Rattle.refusal.specs.Number.{number}
 use Rattle.refusal.specs.declared.Refusal.{Refusal}
 use Rattle.arithmetic.specs.Integers.{down}
 use Rattle.clause_set.specs.declared.Counts.{Counts}
-use Rattle.clause_set.specs.Stores.{add_clauses, after}
+use Rattle.clause_set.specs.declared.ClauseSet.{ClauseSet}
+use Rattle.clause_set.proofs.Writing.{wrote_as}
 use Rattle.norm_csp.proofs.NormCsp.{KnownVar}
 use Rattle.norm_csp.specs.Domain.{IntVarRepresentation, RisingFrom, binary, last_from, list, range}
 use Rattle.log_var.specs.Calls.{Ready, VarAdded, lowest}
 use Rattle.log_encoding.specs.EncodeVarLog.{Encodable, encode_var_log}
 use Rattle.norm_csp.proofs.Domain.{rising_last}
 use Rattle.log_var.proofs.Calls.{last_at}
-use Rattle.log_var.specs.declared.EncodedVar.{EncodedVar}
+use Rattle.log_var.specs.declared.LogEncoding.{LogEncoding}
+use Rattle.log_var.specs.Record.{record_of}
 use Rattle.encoder_env.specs.declared.EncoderEnv.{EncoderEnv}
 use Rattle.encoder_env.specs.WellFormed.{bounds_hold, code_fits, in_range, lez, well_formed}
 use Rattle.encoder_env.proofs.Kept.{Kept, all_at, kept, well_formed_of}
 use Rattle.encoder_env.proofs.Tests.{both, bounds_known, lt_lez, order_lez}
-use Rattle.encoder_answer.specs.declared.Written.{Written}
-use Rattle.encoder_answer.specs.Call.{CallWrote, Settles}
+use Rattle.encoder_answer.specs.Call.{CallWrote, JobSet, Settles}
 use Rattle.encoder_var.specs.Settings.{all_in_range, rising, setting_checks, setting_given, var_checks}
-use Rattle.encoder_answer.specs.Adding.{counts_of}
 use Rattle.encoder_answer.specs.Outcome.{Check, Numbered, check, status_of}
 use Rattle.encoder_answer.proofs.Statuses.{number_some, numbered_both, passed, stops, then_rest}
 
@@ -39,23 +39,25 @@ pub record Admitted (env : EncoderEnv) (lits ends : ℕ) (repr : IntVarRepresent
   pub holds : Kept env lits ends
   pub free : env.count < 32
   pub known : KnownVar env.switches repr
-  pub ready : Ready repr env.variables (counts_of env)
+  pub encodable : Encodable env.variables repr
+  pub low : down (lowest repr) ≤ 4095
 
 admit : (env : EncoderEnv) (lits ends : ℕ) (repr : IntVarRepresentation) → Kept env lits ends → ltb env.count 32 ≡ true
     → KnownVar env.switches repr → Encodable env.variables repr → down (lowest repr) ≤ 4095 → Admitted env lits ends repr
 admit env lits ends repr k n v e l =
+    record { holds = k; free = ltb-true env.count 32 n; known = v; encodable = e; low = l }
+
+-- its sets are ready for the setting's clauses
+pub admitted_ready : {env : EncoderEnv} {lits ends : ℕ} {repr : IntVarRepresentation} → Admitted env lits ends repr
+    → {s : ClauseSet} → JobSet env s → Ready repr s
+admitted_ready {repr = repr} a j =
+    let k = a.holds in
     record {
-      holds = k;
-      free = ltb-true env.count 32 n;
-      known = v;
-      ready =
-          record {
-            encodable = e;
-            low = l;
-            vars_fit = k.variables_max;
-            lits_fit = omega (arith, k.literals_in, k.lits_max);
-            clauses_fit = omega (arith, k.clauses_in, k.ends_max);
-          };
+      encodable = subst (λ v. Encodable v repr) (sym j.vars) a.encodable;
+      low = a.low;
+      vars_fit = omega (arith, j.vars, k.variables_max);
+      lits_fit = omega (arith, j.base, ap (λ (x : Counts). x.lits) j.used, k.literals_in, k.lits_max);
+      clauses_fit = omega (arith, ap (λ (x : Counts). x.clauses) j.used, k.clauses_in, k.ends_max);
     }
 
 range_admitted : (env : EncoderEnv) (lits ends : ℕ) (low high : ℤ)
@@ -167,17 +169,14 @@ module _ (env : EncoderEnv) (lits ends : ℕ) (repr : IntVarRepresentation) wher
   free_decides w h = rw w (then_rest own last (var_numbered env.switches repr) (sym h))
 
 -- the setting was written
-pub setting_wrote : (env : EncoderEnv) (repr : IntVarRepresentation) (lits ends : List ℕ) {at : Counts} → at ≡ counts_of env → {lits₁ ends₁ : List ℕ} {new : EncodedVar}
-    → VarAdded repr env.variables (after lits ends at) new (after lits₁ ends₁ new.used)
-    → {w : Written} → w ≡ record { vars = new.vars; used = new.used; setting = Some new.encoding }
-    → CallWrote env (setting_given env repr) lits ends w lits₁ ends₁
-setting_wrote env repr lits ends k v e =
-    rw e
-    (record {
-      clauses = v.stores ∙ ap (λ (c : Counts). add_clauses 0 (encode_var_log repr env.variables).clauses (after lits ends c)) k;
-      vars = v.vars_are;
-      setting = ap Some v.encoding;
-    })
+pub setting_wrote : (env : EncoderEnv) (repr : IntVarRepresentation) {s t : ClauseSet} {r : LogEncoding} → JobSet env s → VarAdded repr s r t
+    → CallWrote (setting_given env repr) s (Some r) t
+setting_wrote env repr j v =
+    let same = λ (x : ℕ). encode_var_log repr x in
+    record {
+      wrote = wrote_as v.wrote (ap (λ x. (same x).vars) j.vars) (ap (λ x. (same x).clauses) j.vars);
+      setting = ap Some (v.encoding ∙ ap (λ x. record_of (same x).encoding) j.vars);
+    }
 
 -- The arguments, by their last check -----------------------------------------------------------------------------------
 

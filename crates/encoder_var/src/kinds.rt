@@ -1,16 +1,15 @@
 // The three settings as calls that add: the checks of their arguments, and their encoders.
 ghost use Rattle.std.specs.Prelude.{◌≡◌, ◌≤◌};
 ghost use Rattle.refusal.specs.Number.{status};
-ghost use Rattle.clause_set.specs.Stores.{after};
 ghost use Rattle.norm_csp.specs.Domain.{IntVarRepresentation, binary, list, range};
 ghost use Rattle.log_var.specs.Calls.{Ready, VarAdded};
 ghost use Rattle.encoder_answer.specs.Outcome.{status_of};
 ghost use Rattle.encoder_var.specs.Settings.{all_in_range, rising, setting_checks, setting_given, var_checks};
 
-use clause_set::Counts;
-use encoder_answer::{AddingCall, Written, counts_of};
+use clause_set::ClauseSet;
+use encoder_answer::AddingCall;
 use encoder_env::{EncoderEnv, bounds_hold, in_range, well_formed};
-use log_var::EncodedVar;
+use log_var::LogEncoding;
 use refusal::Refusal;
 use sat::Lit;
 
@@ -23,10 +22,10 @@ pub trait Setting {
         requires { switches ≤ 64 }
         ensures { status result ≡ status_of (var_checks switches (repr self.now)) };
 
-    // The clauses behind those in use.
-    fn encode(&self, lits: &mut [u32], ends: &mut [u32], vars: u32, at: Counts) -> EncodedVar
-        requires { Ready (repr self.now) vars at }
-        ensures { VarAdded (repr self.now) vars (after lits.old ends.old at) result (after lits.new ends.new result.used) };
+    // Its clauses into the set, and its record.
+    fn encode(&self, set: &mut ClauseSet<'_>) -> LogEncoding
+        requires { Ready (repr self.now) set.old }
+        ensures { VarAdded (repr self.now) set.old result set.new };
 }
 
 // The whole numbers from `low` to `high`.
@@ -46,8 +45,8 @@ impl Setting for Range {
         Ok(())
     }
 
-    fn encode(&self, lits: &mut [u32], ends: &mut [u32], vars: u32, at: Counts) -> EncodedVar {
-        log_var::encode_range(lits, ends, self.low, self.high, vars, at)
+    fn encode(&self, set: &mut ClauseSet<'_>) -> LogEncoding {
+        log_var::encode_range(set, self.low, self.high)
     }
 }
 
@@ -109,8 +108,8 @@ impl Setting for List<'_> {
         Ok(())
     }
 
-    fn encode(&self, lits: &mut [u32], ends: &mut [u32], vars: u32, at: Counts) -> EncodedVar {
-        log_var::encode_list(lits, ends, self.values, vars, at)
+    fn encode(&self, set: &mut ClauseSet<'_>) -> LogEncoding {
+        log_var::encode_list(set, self.values)
     }
 }
 
@@ -144,8 +143,8 @@ impl Setting for Binary {
         Ok(())
     }
 
-    fn encode(&self, lits: &mut [u32], ends: &mut [u32], vars: u32, at: Counts) -> EncodedVar {
-        log_var::encode_binary(lits, ends, self.cond, self.f, self.t, vars, at)
+    fn encode(&self, set: &mut ClauseSet<'_>) -> LogEncoding {
+        log_var::encode_binary(set, self.cond, self.f, self.t)
     }
 }
 
@@ -181,9 +180,7 @@ impl<S: Setting> AddingCall for NewSetting<S> {
         setting_checks(&self.0, env, lits, ends)
     }
 
-    fn write(&self, env: EncoderEnv, lits: &mut [u32], ends: &mut [u32]) -> Written {
-        let at = counts_of(env);
-        let new = self.0.encode(lits, ends, env.variables, at);
-        Written::from(new)
+    fn write(&self, _env: EncoderEnv, set: &mut ClauseSet<'_>) -> Option<LogEncoding> {
+        Some(self.0.encode(set))
     }
 }

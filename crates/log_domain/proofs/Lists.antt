@@ -1,10 +1,10 @@
 -- The values of a list one after the other: their codes and the gaps between them.
 use Prim.Native.Nat.{◌+◌, ◌-◌, ◌<◌, ◌≤◌, suc, ℕ}
 use lib.IntN.{pos, ℤ}
-use lib.ListN.{drop, drop_of_length-le, get_or, length}
+use lib.ListN.{drop, get_or, length}
 use lib.Seq.{drop-cons}
 use lib.Signed.{◌<ℤ◌, ◌≤ℤ◌}
-use mathlib.Core.List.{List, [], ◌++◌, ◌∷◌, map}
+use mathlib.Core.List.{List, ◌++◌, ◌∷◌, map}
 use mathlib.Core.Path.{◌∙◌, ◌≡◌, ap, subst}
 use native.Mathlib.Numerals.{add-one}
 use native.Mathlib.Omega.{arith}
@@ -45,9 +45,9 @@ gap_fits o a b h r u d =
 
 -- From place i to the next -------------------------------------------------------------------------------------------
 
-module _ (o : ℤ) (values : List ℤ) (i : ℕ) (h : i + 1 < length values) where
+module _ (o : ℤ) (values : List ℤ) (i : ℕ) (h : i < length values - 1) where
   next_value : drop (i + 1) values ≡ get_or values (i + 1) (pos 0) ∷ drop (i + 1 + 1) values
-  next_value = rw (add-one (i + 1)) (drop-cons values (i + 1) (pos 0) h)
+  next_value = rw (add-one (i + 1)) (drop-cons values (i + 1) (pos 0) (omega arith))
 
   pub gaps_step : (ls : List ℕ) → (let (k, m) : ℕ × ℕ = (code o (get_or values i (pos 0)), code o (get_or values (i + 1) (pos 0))) in
       gaps_from ls o values i ≡ gap ls (k + 1) (m - (k + 1)) ++ gaps_from ls o values (i + 1))
@@ -66,7 +66,7 @@ module _ (o : ℤ) (values : List ℤ) (i : ℕ) (h : i + 1 < length values) whe
     rising_step =
         record {
           offset_down = r.offset_down;
-          here = h;
+          here = omega arith;
           above = ≤ℤ_trans o (get_or values i (pos 0)) (get_or values (i + 1) (pos 0)) r.above (<ℤ_le (get_or values i (pos 0)) (get_or values (i + 1) (pos 0)) rest.0);
           rising = rest.1;
           last_up = subst (λ zs. up (last_from (get_or values i (pos 0)) zs) < 4096) next_value r.last_up;
@@ -82,6 +82,3 @@ module _ (o : ℤ) (values : List ℤ) (i : ℕ) (h : i + 1 < length values) whe
 
     pub next_rises : get_or values i (pos 0) <ℤ get_or values (i + 1) (pos 0)
     next_rises = rest.0
-
-pub gaps_end : (o : ℤ) (values : List ℤ) (i : ℕ) (ls : List ℕ) → length values ≤ i + 1 → gaps_from ls o values i ≡ []
-gaps_end o values i ls h = ap (λ zs. gaps ls (code o (get_or values i (pos 0))) (map (code o) zs)) (drop_of_length-le values h)

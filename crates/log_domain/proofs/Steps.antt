@@ -11,9 +11,6 @@ use Rattle.arithmetic.specs.Bits.{odd}
 use Rattle.sat.specs.Fresh.{fresh}
 use Rattle.sat.specs.Lit.{as_lit, neg}
 use Rattle.sat.proofs.Fresh.{fresh_end, fresh_start, fresh_step, length_fresh}
-use Rattle.clause_set.specs.Stores.{Fits, Stores, add_clauses, stores}
-use Rattle.clause_set.specs.declared.Counts.{Counts}
-use Rattle.clause_set.proofs.Adding.{one_added}
 use Rattle.log_domain.specs.Domain.{bound}
 use Rattle.log_encoding.specs.Domain.{against, at_least, at_most, gap}
 use Rattle.log_encoding.proofs.VarSize.{length_against}
@@ -49,25 +46,10 @@ against_turn s from n v i k h e p =
 pub against_long : (n v k : ℕ) → length (against (fresh n v) k) ≡ n
 against_long n v k = length_against (fresh n v) k ∙ length_fresh n v
 
-pub against_fits : (wanted : Bool) (at : Counts) (n v k : ℕ) → wanted ≡ true → Fits 0 at (cond wanted (against (fresh n v) k ∷ []) [])
-    → at.lits + n < 4294967296
-against_fits wanted at n v k w f = let g = rw w at f in omega (arith, against_long n v k)
-
-pub against_none : (wanted : Bool) (s : Stores) (c : List ℕ) → wanted ≡ false → s ≡ add_clauses 0 (cond wanted (c ∷ []) []) s
-against_none wanted s c w = rw w
-
--- all of it is stored, and its end
-pub against_added : (wanted : Bool) (s : Stores) {d e : List ℕ} (n v i k x : ℕ) → wanted ≡ true → n ≤ i
-    → sets s.lits s.used (against (fresh n v) k) ≡ sets d (s.used + i) (against (fresh (n - i) (v + i)) x)
-    → e ≡ set s.ends (s.count + 1) (s.used + n)
-    → stores d e (s.used + n) (s.count + 1) ≡ add_clauses 0 (cond wanted (against (fresh n v) k ∷ []) []) s
-against_added wanted s {d} {e} n v i k x w h p q =
-    let end : s.used + n ≡ 0 + (s.used + n) = omega arith in
-    rw w
-    (one_added 0 s (against (fresh n v) k) d e (s.used + n)
-    (sym (p ∙ ap (λ ls. sets d (s.used + i) (against ls x)) (fresh_end n v i h)))
-    (ap (λ m. s.used + m) (sym (against_long n v k)))
-    (q ∙ ap (set s.ends (s.count + 1)) end))
+-- all of it is stored
+pub against_stored : (s d : List ℕ) (from n v i k x : ℕ) → n ≤ i
+    → sets s from (against (fresh n v) k) ≡ sets d (from + i) (against (fresh (n - i) (v + i)) x) → d ≡ sets s from (against (fresh n v) k)
+against_stored s d from n v i k x h p = sym (p ∙ ap (λ ls. sets d (from + i) (against ls x)) (fresh_end n v i h))
 
 -- Bounds and gaps ----------------------------------------------------------------------------------------------------
 
@@ -96,6 +78,18 @@ pub bound_step : (lower : Bool) (n v i k : ℕ) → i < n
     ≡ cond (beq (odd k) lower) (against (fresh (n - i) (v + i)) (k + 1 - 2 * (k % 2)) ∷ []) [] ++ bound lower (fresh (n - (i + 1)) (v + (i + 1))) (k / 2)
 bound_step lower n v i k h = rw (fresh_step n v i h) (bound_cons lower (2 * (v + i)) (fresh (n - (i + 1)) (v + (i + 1))) k)
 
+pub bound_taken : (lower : Bool) (n v i k : ℕ) → i < n → beq (odd k) lower ≡ true
+    → bound lower (fresh (n - i) (v + i)) k
+    ≡ (against (fresh (n - i) (v + i)) (k + 1 - 2 * (k % 2)) ∷ []) ++ bound lower (fresh (n - (i + 1)) (v + (i + 1))) (k / 2)
+bound_taken lower n v i k h e = bound_step lower n v i k h ∙ ap (λ w. cond w (against (fresh (n - i) (v + i)) (k + 1 - 2 * (k % 2)) ∷ []) [] ++ bound lower (fresh (n - (i + 1)) (v + (i + 1))) (k / 2)) e
+
+pub bound_passed : (lower : Bool) (n v i k : ℕ) → i < n → beq (odd k) lower ≡ false
+    → bound lower (fresh (n - i) (v + i)) k ≡ bound lower (fresh (n - (i + 1)) (v + (i + 1))) (k / 2)
+bound_passed lower n v i k h e = bound_step lower n v i k h ∙ ap (λ w. cond w (against (fresh (n - i) (v + i)) (k + 1 - 2 * (k % 2)) ∷ []) [] ++ bound lower (fresh (n - (i + 1)) (v + (i + 1))) (k / 2)) e
+
+pub bound_start : (lower : Bool) (n v k : ℕ) → bound lower (fresh n v) k ≡ bound lower (fresh (n - 0) (v + 0)) k
+bound_start lower n v k = ap (λ ls. bound lower ls k) (fresh_start n v)
+
 pub bound_end : (lower : Bool) (n v i k : ℕ) → n ≤ i → bound lower (fresh (n - i) (v + i)) k ≡ []
 bound_end lower n v i k h = ap (λ ls. bound lower ls k) (fresh_end n v i h) ∙ go lower
   where
@@ -103,18 +97,14 @@ bound_end lower n v i k h = ap (λ ls. bound lower ls k) (fresh_end n v i h) ∙
     go true = refl
     go false = refl
 
-pub gap_start : (ls : List ℕ) (k many : ℕ) → gap ls k many ≡ gap ls (k + 0) (many - 0)
-gap_start ls k many =
-    let m : many ≡ many - 0 = omega arith in
-    let x : k ≡ k + 0 = omega arith in
-    ap₂ (gap ls) x m
+pub gap_start : (ls : List ℕ) (k many : ℕ) → gap ls k many ≡ gap ls k (k + many - k)
+gap_start ls k many = let m : many ≡ k + many - k = omega arith in ap (gap ls k) m
 
-pub gap_step : (ls : List ℕ) (k many i : ℕ) → i < many
-    → gap ls (k + i) (many - i) ≡ (against ls (k + i) ∷ []) ++ gap ls (k + (i + 1)) (many - (i + 1))
-gap_step ls k many i h =
-    let e : many - i ≡ suc (many - (i + 1)) = omega arith in
-    let f : suc (k + i) ≡ k + (i + 1) = omega arith in
-    ap (gap ls (k + i)) e ∙ ap (λ x. against ls (k + i) ∷ gap ls x (many - (i + 1))) f
+pub gap_step : (ls : List ℕ) (x end : ℕ) → x < end → gap ls x (end - x) ≡ (against ls x ∷ []) ++ gap ls (x + 1) (end - (x + 1))
+gap_step ls x end h =
+    let e : end - x ≡ suc (end - (x + 1)) = omega arith in
+    let f : suc x ≡ x + 1 = omega arith in
+    ap (gap ls x) e ∙ ap (λ y. against ls x ∷ gap ls y (end - (x + 1))) f
 
-pub gap_end : (ls : List ℕ) (k many i : ℕ) → many ≤ i → gap ls (k + i) (many - i) ≡ []
-gap_end ls k many i h = let e : many - i ≡ 0 = omega arith in ap (gap ls (k + i)) e
+pub gap_end : (ls : List ℕ) (x end : ℕ) → end ≤ x → gap ls x (end - x) ≡ []
+gap_end ls x end h = let e : end - x ≡ 0 = omega arith in ap (gap ls x) e

@@ -4,25 +4,21 @@ use borrow.Author.Tests.{eq-eqb, eqb-false, eqb-true, ne_eqb}
 use lib.Dec.{eqb}
 use lib.ListN.{drop, length, length-map, length-replicate, replicate, set}
 use lib.Seq.{sets, sets-eq}
-use mathlib.Core.Bool.{Bool, beq, cond, false, not, true}
+use mathlib.Core.Bool.{Bool, false, true}
 use mathlib.Core.List.{List, [], ◌++◌, ◌∷◌, map}
 use mathlib.Core.Path.{◌∙◌, ◌≡◌, ap, ap₂, refl, sym}
 use native.Mathlib.Omega.{arith}
 use Rattle.arithmetic.specs.Bits.{odd}
 use Rattle.sat.specs.declared.Lit.{Lit}
 use Rattle.sat.specs.Encoded.{EncodedBits}
-use Rattle.sat.specs.Fresh.{fresh}
-use Rattle.sat.specs.Lit.{neg}
-use Rattle.clause_set.specs.declared.Counts.{Counts}
-use Rattle.clause_set.specs.Stores.{Fits, Stores, add_clauses, after}
-use Rattle.clause_set.proofs.Adding.{Going, going_end, going_fits, going_restart, going_turn}
+use Rattle.sat.specs.Lit.{as_lit, neg}
+use Rattle.sat.specs.LitArray.{lit}
+use Rattle.clause_set.specs.declared.ClauseSet.{ClauseSet}
+use Rattle.clause_set.specs.Stores.{Added, Fits, Wrote}
+use Rattle.clause_set.proofs.Writing.{Left, left_as, left_end, left_fits, left_start, left_turn, wrote_as, wrote_then}
 use Rattle.log_encoding.specs.Binary.{binary_bit, binary_bits}
 use Rattle.log_var.specs.Parts.{BitAdded, BitsAdded}
-use Rattle.log_encoding.specs.Domain.{against}
 use Rattle.log_var.specs.Record.{pad}
-use Rattle.sat.specs.LitArray.{lit}
-use Rattle.log_var.specs.declared.EncodedBit.{EncodedBit}
-use Rattle.log_var.specs.declared.EncodedBits.{EncodedBits as Bits}
 
 drop_replicate : {A : Type 0} (n m : ℕ) (x : A) → drop m (replicate n x) ≡ replicate (n - m) x
 drop_replicate n zero x = let e : n ≡ n - 0 = omega arith in ap (λ k. replicate k x) e
@@ -48,60 +44,47 @@ placed_turn out i l x rest e =
 
 -- One bit of two values ----------------------------------------------------------------------------------------------
 
+neg_plain : (v : ℕ) → neg (2 * v) ≡ 2 * v + 1
+unfolding neg
+neg_plain v = rw (eq-eqb (2 * v % 2) 0 (omega arith))
+
+abbrev no_more : ℕ → EncodedBits
+no_more w = record { clauses = []; bits = []; vars = w }
+
 -- by whether f and t are equal in it, and t's
 module _ (f t c v : ℕ) where
-  one_bit : binary_bits 1 f t c v
-      ≡ record {
-        clauses = cond (eqb (f % 2) (t % 2)) (against (fresh 1 v) (1 - t % 2) ∷ []) [];
-        bits = cond (eqb (f % 2) (t % 2)) (2 * v) (cond (odd t) c (neg c)) ∷ [];
-        vars = cond (eqb (f % 2) (t % 2)) (suc v) v;
-      }
-  one_bit = go (odd f) (odd t) refl refl
+  pub bit_same : f % 2 ≡ t % 2
+      → binary_bits 1 f t c v ≡ record { clauses = (as_lit v (eqb (t % 2) 0) ∷ []) ∷ []; bits = 2 * v ∷ []; vars = suc v }
+  bit_same equal = go (odd f) (odd t) refl refl
     where
-      other : (b : Bool) → odd t ≡ b → odd (1 - t % 2) ≡ not b
-      other true e = ne_eqb ((1 - t % 2) % 2) 1 (omega (arith, eqb-true (t % 2) 1 e))
-      other false e = let h : ¬ (t % 2 ≡ 1) = eqb-false (t % 2) 1 e in eq-eqb ((1 - t % 2) % 2) 1 (omega arith)
-
-      same : (a b : Bool) → odd f ≡ a → odd t ≡ b → eqb (f % 2) (t % 2) ≡ beq a b
-      same true true p q = eq-eqb (f % 2) (t % 2) (omega (arith, eqb-true (f % 2) 1 p, eqb-true (t % 2) 1 q))
-      same true false p q = let h : ¬ (t % 2 ≡ 1) = eqb-false (t % 2) 1 q in ne_eqb (f % 2) (t % 2) (omega (arith, eqb-true (f % 2) 1 p))
-      same false true p q = let h : ¬ (f % 2 ≡ 1) = eqb-false (f % 2) 1 p in ne_eqb (f % 2) (t % 2) (omega (arith, eqb-true (t % 2) 1 q))
-      same false false p q =
-          let h : ¬ (t % 2 ≡ 1) = eqb-false (t % 2) 1 q in
-          let g : ¬ (f % 2 ≡ 1) = eqb-false (f % 2) 1 p in
-          eq-eqb (f % 2) (t % 2) (omega arith)
-
       go : (a b : Bool) → odd f ≡ a → odd t ≡ b
-          → binary_bit a b c v (λ w. record { clauses = []; bits = []; vars = w })
-          ≡ record {
-            clauses = cond (eqb (f % 2) (t % 2)) (against (fresh 1 v) (1 - t % 2) ∷ []) [];
-            bits = cond (eqb (f % 2) (t % 2)) (2 * v) (cond b c (neg c)) ∷ [];
-            vars = cond (eqb (f % 2) (t % 2)) (suc v) v;
-          }
-      go true true p q = rw (same true true p q, other true q)
-      go true false p q = rw (same true false p q)
-      go false true p q = rw (same false true p q)
-      go false false p q = rw (same false false p q, other false q)
+          → binary_bit a b c v no_more ≡ record { clauses = (as_lit v (eqb (t % 2) 0) ∷ []) ∷ []; bits = 2 * v ∷ []; vars = suc v }
+      go true true p q = rw (ne_eqb (t % 2) 0 (omega (arith, eqb-true (t % 2) 1 q)))
+      go true false p q = let h : ¬ (t % 2 ≡ 1) = eqb-false (t % 2) 1 q in absurd (omega (arith, equal, eqb-true (f % 2) 1 p))
+      go false true p q = let h : ¬ (f % 2 ≡ 1) = eqb-false (f % 2) 1 p in absurd (omega (arith, equal, eqb-true (t % 2) 1 q))
+      go false false p q =
+          let h : ¬ (t % 2 ≡ 1) = eqb-false (t % 2) 1 q in
+          rw (eq-eqb (t % 2) 0 (omega arith), neg_plain v)
 
-  pub bit_vars_le : (binary_bits 1 f t c v).vars ≤ suc v
-  bit_vars_le = rw one_bit (go (eqb (f % 2) (t % 2)))
-    where
-      go : (b : Bool) → cond b (suc v) v ≤ suc v
-      go true = omega arith
-      go false = omega arith
+pub bit_vars_le : (f t c v : ℕ) → (binary_bits 1 f t c v).vars ≤ suc v
+bit_vars_le f t c v = go (odd f) (odd t)
+  where
+    go : (a b : Bool) → (binary_bit a b c v no_more).vars ≤ suc v
+    go true true = omega arith
+    go true false = omega arith
+    go false true = omega arith
+    go false false = omega arith
 
-  pub bit_clauses : cond (eqb (f % 2) (t % 2)) (against (fresh 1 v) (1 - t % 2) ∷ []) [] ≡ (binary_bits 1 f t c v).clauses
-  bit_clauses = ap (λ (b : EncodedBits). b.clauses) (sym one_bit)
-
-  pub bit_added : (same : Bool) (s s' : Stores) (r : EncodedBit) → eqb (f % 2) (t % 2) ≡ same
-      → s' ≡ add_clauses 0 (cond (eqb (f % 2) (t % 2)) (against (fresh 1 v) (1 - t % 2) ∷ []) []) s
-      → r.lit.0 ≡ cond same (2 * v) (cond (odd t) c (neg c)) → r.next.0 ≡ cond same (suc v) v → BitAdded f t c v s r s'
-  bit_added same s s' r e w l n =
-      record {
-        stores = w ∙ ap (λ cs. add_clauses 0 cs s) bit_clauses;
-        vars_are = n ∙ ap (λ b. cond b (suc v) v) (sym e) ∙ ap (λ (b : EncodedBits). b.vars) (sym one_bit);
-        lits_are = ap (λ x. x ∷ []) (l ∙ ap (λ b. cond b (2 * v) (cond (odd t) c (neg c))) (sym e)) ∙ ap (λ (b : EncodedBits). b.bits) (sym one_bit);
-      }
+-- a new variable, and its clause
+pub fixed_added : (f t c : ℕ) {s u w : ClauseSet} {l : ℕ} {r : Lit} → f % 2 ≡ t % 2 → l ≡ as_lit s.vars (eqb (t % 2) 0)
+    → Added s ((l ∷ []) ∷ []) u → Wrote u (u.vars + 1) [] w → r.0 ≡ 2 * u.vars → BitAdded f t c s r w
+fixed_added f t c {s} {u} e same a new is =
+    let bit = bit_same f t c s.vars e in
+    record {
+      wrote = wrote_as (wrote_then a new) ((let j : u.vars + 1 ≡ suc s.vars = omega (arith, a.vars_are) in j) ∙ ap (λ (b : EncodedBits). b.vars) (sym bit))
+          (ap (λ x. (x ∷ []) ∷ []) same ∙ ap (λ (b : EncodedBits). b.clauses) (sym bit));
+      lits_are = ap (λ x. x ∷ []) (is ∙ ap (λ x. 2 * x) a.vars_are) ∙ ap (λ (b : EncodedBits). b.bits) (sym bit);
+    }
 
 -- The bits one after the other ---------------------------------------------------------------------------------------
 
@@ -140,60 +123,50 @@ bits_long (suc n) f t c v = go (odd f) (odd t) (bits_long n (f / 2) (t / 2) c)
     go false true ih = ap suc (ih v)
     go false false ih = ap suc (ih (suc v))
 
--- n bits are to be encoded, and those from i on are left, of codes x and y, with new variables from w on
-pub record BitsLeft (n f t c v : ℕ) (d₀ e₀ : List ℕ) (a₀ : Counts) (out₀ : List Lit) (d e : List ℕ) (a : Counts) (out : List Lit) (i x y w : ℕ) : Type 0 where
-  pub going : Going 0 d₀ e₀ a₀ (binary_bits n f t c v).clauses d e a (binary_bits (n - i) x y c w).clauses
-  pub placed : sets out₀ 0 (map lit (binary_bits n f t c v).bits) ≡ sets out i (map lit (binary_bits (n - i) x y c w).bits)
-  pub same_vars : (binary_bits n f t c v).vars ≡ (binary_bits (n - i) x y c w).vars
-  pub turn : i ≤ n
-  pub room : w + (n - i) ≤ v + n
+-- What is left of n bits of codes f and t: those from i on, of codes x and y, in new variables behind the set u's.
+pub record BitsLeft (n f t c : ℕ) (s : ClauseSet) (out₀ : List Lit) (u : ClauseSet) (out : List Lit) (i x y : ℕ) : Type 0 where
+  pub left : Left s (binary_bits n f t c s.vars).clauses u (binary_bits (n - i) x y c u.vars).clauses
+  pub placed : sets out₀ 0 (map lit (binary_bits n f t c s.vars).bits) ≡ sets out i (map lit (binary_bits (n - i) x y c u.vars).bits)
+  pub same_vars : (binary_bits n f t c s.vars).vars ≡ (binary_bits (n - i) x y c u.vars).vars
+  pub room : u.vars + (n - i) ≤ s.vars + n
 
-pub bits_start : {d e : List ℕ} {a : Counts} {out : List Lit} (n f t c v : ℕ) → Fits 0 a (binary_bits n f t c v).clauses
-    → BitsLeft n f t c v d e a out d e a out 0 f t v
-bits_start {out = out} n f t c v fits =
+pub bits_start : (n f t c : ℕ) {s : ClauseSet} {out : List Lit} → Fits s.base s.used (binary_bits n f t c s.vars).clauses → BitsLeft n f t c s out s out 0 f t
+bits_start n f t c {s} {out} fits =
     let m : n ≡ n - 0 = omega arith in
     record {
-      going = going_restart (ap (λ k. (binary_bits k f t c v).clauses) m) fits;
-      placed = ap (λ k. sets out 0 (map lit (binary_bits k f t c v).bits)) m;
-      same_vars = ap (λ k. (binary_bits k f t c v).vars) m;
-      turn = omega arith;
+      left = left_as (left_start s _ fits) (ap (λ k. (binary_bits k f t c s.vars).clauses) m);
+      placed = ap (λ k. sets out 0 (map lit (binary_bits k f t c s.vars).bits)) m;
+      same_vars = ap (λ k. (binary_bits k f t c s.vars).vars) m;
       room = omega arith;
     }
 
-module _ {n f t c v : ℕ} {d₀ e₀ : List ℕ} {a₀ : Counts} {out₀ : List Lit} {d e : List ℕ} {a : Counts} {out : List Lit} {i x y w : ℕ} (g : BitsLeft n f t c v d₀ e₀ a₀ out₀ d e a out i x y w) where
-  pub bits_fit : i < n → Fits 0 a (binary_bits 1 x y c w).clauses
-  bits_fit h =
-      let one = binary_bits 1 x y c w in
-      going_fits one.clauses (binary_bits (n - (i + 1)) (x / 2) (y / 2) c one.vars).clauses (ap (λ (b : EncodedBits). b.clauses) (bits_step n i x y c w h)) g.going
+module _ {n f t c : ℕ} {s : ClauseSet} {out₀ : List Lit} {u : ClauseSet} {out : List Lit} {i x y : ℕ} (g : BitsLeft n f t c s out₀ u out i x y) where
+  pub bits_fit : i < n → Fits u.base u.used (binary_bits 1 x y c u.vars).clauses
+  bits_fit h = left_fits _ _ (left_as g.left (ap (λ (b : EncodedBits). b.clauses) (bits_step n i x y c u.vars h)))
 
-  pub bits_end : {r : Bits} → n ≤ i → n ≤ 12 → out₀ ≡ replicate 12 (lit 0) → r.lits ≡ out → r.vars ≡ w → r.used ≡ a
-      → BitsAdded n f t c v (after d₀ e₀ a₀) r (after d e r.used)
-  bits_end h k o l u q =
+  pub bits_end : n ≤ i → n ≤ 12 → out₀ ≡ replicate 12 (lit 0) → BitsAdded n f t c s out u
+  bits_end h k o =
       let m : n - i ≡ 0 = omega arith in
       record {
-        stores = ap (after d e) q ∙ going_end g.going (ap (λ j. (binary_bits j x y c w).clauses) m);
-        vars_are = u ∙ sym (g.same_vars ∙ ap (λ j. (binary_bits j x y c w).vars) m);
-        lits_are = l ∙ sym (g.placed ∙ ap (λ j. sets out i (map lit (binary_bits j x y c w).bits)) m)
-            ∙ ap (λ z. sets z 0 (map lit (binary_bits n f t c v).bits)) o ∙ placed_all (binary_bits n f t c v).bits (omega (arith, bits_long n f t c v));
+        wrote = wrote_as (left_end (left_as g.left (ap (λ j. (binary_bits j x y c u.vars).clauses) m)))
+            (sym (g.same_vars ∙ ap (λ j. (binary_bits j x y c u.vars).vars) m)) refl;
+        lits_are = sym (g.placed ∙ ap (λ j. sets out i (map lit (binary_bits j x y c u.vars).bits)) m)
+            ∙ ap (λ z. sets z 0 (map lit (binary_bits n f t c s.vars).bits)) o
+            ∙ placed_all (binary_bits n f t c s.vars).bits (omega (arith, bits_long n f t c s.vars));
       }
 
-  pub bits_turn : {d₁ e₁ : List ℕ} {r : EncodedBit} → i < n → length d₁ ≡ length d → length e₁ ≡ length e
-      → BitAdded x y c w (after d e a) r (after d₁ e₁ r.used)
-      → BitsLeft n f t c v d₀ e₀ a₀ out₀ d₁ e₁ r.used (set out i r.lit) (i + 1) (x / 2) (y / 2) r.next.0
-  bits_turn {r = r} h p q b =
-      let one = binary_bits 1 x y c w in
+  pub bits_turn : {w : ClauseSet} {r : Lit} → i < n → BitAdded x y c u r w → BitsLeft n f t c s out₀ w (set out i r) (i + 1) (x / 2) (y / 2)
+  bits_turn {w} {r} h b =
+      let one = binary_bits 1 x y c u.vars in
       let more = binary_bits (n - (i + 1)) (x / 2) (y / 2) c in
-      let step = bits_step n i x y c w h in
-      let next : one.vars ≡ r.next.0 = sym b.vars_are in
-      let left = more r.next.0 in
+      let step = bits_step n i x y c u.vars h in
+      let next : one.vars ≡ w.vars = sym b.wrote.vars_are in
       record {
-        going = going_turn one.clauses left.clauses
-            (ap (λ (z : EncodedBits). z.clauses) step ∙ ap (λ k. one.clauses ++ (more k).clauses) next)
-            g.going r.used p q b.stores;
+        left = left_turn one.clauses (more w.vars).clauses
+            (left_as g.left (ap (λ (z : EncodedBits). z.clauses) step ∙ ap (λ k. one.clauses ++ (more k).clauses) next)) b.wrote;
         placed = g.placed
-            ∙ ap (λ ls. sets out i (map lit ls)) (ap (λ (z : EncodedBits). z.bits) step ∙ ap (λ k. one.bits ++ (more k).bits) next ∙ ap (λ ls. ls ++ left.bits) (sym b.lits_are))
-            ∙ placed_turn out i r.lit r.lit.0 left.bits refl;
+            ∙ ap (λ ls. sets out i (map lit ls)) (ap (λ (z : EncodedBits). z.bits) step ∙ ap (λ k. one.bits ++ (more k).bits) next ∙ ap (λ ls. ls ++ (more w.vars).bits) (sym b.lits_are))
+            ∙ placed_turn out i r r.0 (more w.vars).bits refl;
         same_vars = g.same_vars ∙ ap (λ (z : EncodedBits). z.vars) step ∙ ap (λ k. (more k).vars) next;
-        turn = omega arith;
-        room = omega (arith, g.room, bit_vars_le x y c w);
+        room = omega (arith, g.room, bit_vars_le x y c u.vars, next);
       }

@@ -16,7 +16,7 @@ use Rattle.arithmetic.proofs.Integers.{<ℤ_le, apart_read, order_read, ≤ℤ_t
 use Rattle.arithmetic.proofs.Offset.{code_read, offset_low, offset_read}
 use Rattle.sat.specs.Size.{entries}
 use Rattle.sat.proofs.Fresh.{length_fresh}
-use Rattle.clause_set.specs.declared.Counts.{Counts}
+use Rattle.clause_set.specs.declared.ClauseSet.{ClauseSet}
 use Rattle.clause_set.specs.Stores.{Fits}
 use Rattle.norm_csp.specs.Domain.{IntVarRepresentation, binary, last_from, list, range}
 use Rattle.norm_csp.proofs.Domain.{rising_last}
@@ -144,9 +144,9 @@ encode_var_log_few v (list (k ∷ ks)) h =
 encode_var_log_few v (binary c f t) h = binary_encodes_few c f t v (bit_length_least (code (offset_of f) t) 12 h.2)
 
 -- no count wraps
-pub ready_fits : (repr : IntVarRepresentation) (vars : ℕ) (at : Counts) → Ready repr vars at → Fits 0 at (encode_var_log repr vars).clauses
-ready_fits repr vars at r =
-    let f = encode_var_log_few vars repr r.encodable in
+pub ready_fits : (repr : IntVarRepresentation) (s : ClauseSet) → Ready repr s → Fits s.base s.used (encode_var_log repr s.vars).clauses
+ready_fits repr s r =
+    let f = encode_var_log_few s.vars repr r.encodable in
     record { lits = omega (arith, r.lits_fit, f.clauses, f.literals); clauses = omega (arith, r.clauses_fit, f.clauses) }
 
 -- The record ---------------------------------------------------------------------------------------------------------

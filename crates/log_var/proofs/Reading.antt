@@ -1,10 +1,10 @@
 -- A setting's value under an assignment of bytes: where all bytes are 0 or 1 and the literals are in range, it is the value under the
 -- assignment of their truth values (`read_bytes_is`).
-use Prim.Native.Nat.{◌*◌, ◌+◌, ◌-◌, ◌<◌, ◌≤◌, suc, zero, ℕ}
-use lib.ListN.{drop, drop_of_length-le, get_or, length, length-drop, length-map, take}
-use lib.Seq.{drop-cons, get_or-take, length-take-le, take_at}
+use Prim.Native.Nat.{◌*◌, ◌+◌, ◌<◌, ◌≤◌, suc, zero, ℕ}
+use lib.ListN.{length, length-append, length-map}
+use lib.Seq.{take_at}
 use mathlib.Core.Bool.{Bool, cond, false, true}
-use mathlib.Core.List.{List, [], ◌∷◌, map}
+use mathlib.Core.List.{List, [], ◌++◌, ◌∷◌, append-nil, append_assoc, map}
 use mathlib.Core.Path.{◌∙◌, ◌≡◌, ap, ap₂, refl, sym}
 use mir.Val.{bool_byte}
 use native.Mathlib.Omega.{arith}
@@ -24,12 +24,6 @@ use Rattle.log_var.specs.declared.LogEncoding.{LogEncoding as Encoding}
 
 -- The loop -----------------------------------------------------------------------------------------------------------
 
-pub code_none : (bytes : List ℕ) (n : ℕ) (lits : List Lit) → n ≤ length lits → 0 ≡ code_of_bytes bytes (map num (drop n (take n lits)))
-code_none bytes n lits h =
-    let e : length (take n lits) ≡ n = length-take-le n lits h in
-    let h : length (take n lits) ≤ n = omega arith in
-    sym (ap (λ ls. code_of_bytes bytes (map num ls)) (drop_of_length-le (take n lits) h))
-
 bit_code_below : (b : Bool) (k m : ℕ) → k < m → cond b 1 0 + 2 * k < 2 * m
 bit_code_below true k m h = omega arith
 bit_code_below false k m h = omega arith
@@ -40,27 +34,39 @@ code_below bytes [] (suc m) h = omega (arith, code_below bytes [] m (omega arith
 code_below bytes (l ∷ ls) zero h = absurd (omega arith)
 code_below bytes (l ∷ ls) (suc m) h = bit_code_below (lit_holds bytes l) (code_of_bytes bytes ls) (shl m 1) (code_below bytes ls m (omega arith))
 
-pub code_small : (bytes : List ℕ) (n i : ℕ) (lits : List Lit) → n ≤ 12 → n ≤ length lits → code_of_bytes bytes (map num (drop i (take n lits))) < 4096
-code_small bytes n i lits h len =
-    code_below bytes (map num (drop i (take n lits))) 12
-    (omega (arith, length-map (drop i (take n lits)) num, length-drop i (take n lits), length-take-le n lits len))
+pub code_small : (bytes ls : List ℕ) → length ls ≤ 12 → code_of_bytes bytes ls < 4096
+code_small bytes ls h = code_below bytes ls 12 h
 
--- one literal more, below those read
-pub code_turn : (bytes : List ℕ) (lits : List Lit) (n i k : ℕ) (b : Bool) → 0 < i → i ≤ n → n ≤ length lits
-    → k ≡ code_of_bytes bytes (map num (drop i (take n lits))) → b ≡ lit_holds bytes (get_or lits (i - 1) (lit 0)).0
-    → 2 * k + bool_byte b ≡ code_of_bytes bytes (map num (drop (i - 1) (take n lits)))
-code_turn bytes lits n i k b h g len e p =
-    let long : length (take n lits) ≡ n = length-take-le n lits len in
-    let j : suc (i - 1) ≡ i = omega arith in
-    let split : drop (i - 1) (take n lits) ≡ get_or lits (i - 1) (lit 0) ∷ drop i (take n lits) =
-    drop-cons (take n lits) (i - 1) (lit 0) (omega arith)
-    ∙ ap₂ (λ x m. x ∷ drop m (take n lits)) (get_or-take n lits (i - 1) (lit 0) (omega arith)) j in
-    let add : 2 * k + bool_byte b ≡ cond b 1 0 + 2 * k = omega (arith, byte b) in
-    add ∙ ap₂ (λ c m. cond c 1 0 + 2 * m) p e ∙ sym (ap (λ ls. code_of_bytes bytes (map num ls)) split)
-  where
-    byte : (t : Bool) → bool_byte t ≡ cond t 1 0
-    byte true = refl
-    byte false = refl
+-- the literals read so far stand behind those that are left, and spell k
+pub record Read (bytes : List ℕ) (lits left : List Lit) (k : ℕ) : Type 0 where
+  pub passed : List Lit
+  pub split : lits ≡ left ++ passed
+  pub value : k ≡ code_of_bytes bytes (map num passed)
+
+pub read_start : (bytes : List ℕ) (lits : List Lit) → Read bytes lits lits 0
+read_start bytes lits = record { passed = []; split = sym (append-nil lits); value = refl }
+
+module _ {bytes : List ℕ} {lits left : List Lit} {k : ℕ} (r : Read bytes lits left k) where
+  pub read_small : length lits ≤ 12 → k < 4096
+  read_small h =
+      let long : length (map num r.passed) ≤ 12 = omega (arith, ap length r.split, length-append left r.passed, length-map r.passed num) in
+      omega (arith, r.value, code_small bytes (map num r.passed) long)
+
+  -- one literal more, before those read
+  pub read_turn : (rest : List Lit) (l : Lit) (b : Bool) → left ≡ rest ++ (l ∷ []) → b ≡ lit_holds bytes l.0 → Read bytes lits rest (2 * k + bool_byte b)
+  read_turn rest l b e h =
+      record {
+        passed = l ∷ r.passed;
+        split = r.split ∙ ap (λ xs. xs ++ r.passed) e ∙ append_assoc rest (l ∷ []) r.passed;
+        value = sum b ∙ ap₂ (λ c m. cond c 1 0 + 2 * m) h r.value;
+      }
+    where
+      sum : (t : Bool) → 2 * k + bool_byte t ≡ cond t 1 0 + 2 * k
+      sum true = omega arith
+      sum false = omega arith
+
+  pub read_end : left ≡ [] → k ≡ code_of_bytes bytes (map num lits)
+  read_end e = r.value ∙ ap (λ xs. code_of_bytes bytes (map num xs)) (sym (r.split ∙ ap (λ xs. xs ++ r.passed) e))
 
 -- The law ------------------------------------------------------------------------------------------------------------
 

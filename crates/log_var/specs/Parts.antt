@@ -1,14 +1,14 @@
 -- What the parts of these functions ask and answer: the codes of the bounds, the bits of two values.
-use Rattle.std.specs.Prelude.{◌<◌, ◌≤◌, ℕ, ℤ, ◌≤ℤ◌, [], ◌∷◌, ◌≡◌}
+use Rattle.std.specs.Prelude.{◌<◌, ◌≤◌, ℕ, ℤ, ◌≤ℤ◌, List, [], ◌∷◌, ◌≡◌}
 use Rattle.arithmetic.specs.Bits.{bit_length}
 use Rattle.arithmetic.specs.Integers.{down, up}
 use Rattle.arithmetic.specs.Offset.{code, offset_of}
-use Rattle.clause_set.specs.Stores.{Stores, add_clauses}
+use Rattle.sat.specs.declared.Lit.{Lit}
+use Rattle.clause_set.specs.Stores.{Wrote}
+use Rattle.clause_set.specs.declared.ClauseSet.{ClauseSet}
 use Rattle.log_encoding.specs.Binary.{binary_bits}
 use Rattle.log_var.specs.Record.{pad}
 use Rattle.log_var.specs.declared.CodeRange.{CodeRange}
-use Rattle.log_var.specs.declared.EncodedBit.{EncodedBit}
-use Rattle.log_var.specs.declared.EncodedBits.{EncodedBits}
 
 -- the codes of values from low to high are small, and so are the values
 pub record CodesFit (low high : ℤ) : Type 0 where
@@ -27,14 +27,12 @@ code_range low high =
     let offset = offset_of low in
     record { offset = offset; low = code offset low; high = code offset high; bits = bit_length (code offset high) }
 
--- one bit of two values, and the stores s' after it from s
-pub record BitAdded (f t c v : ℕ) (s : Stores) (r : EncodedBit) (s' : Stores) : Type 0 where
-  pub stores : s' ≡ add_clauses 0 (binary_bits 1 f t c v).clauses s
-  pub vars_are : r.next.0 ≡ (binary_bits 1 f t c v).vars
-  pub lits_are : r.lit.0 ∷ [] ≡ (binary_bits 1 f t c v).bits
+-- one bit of two values: its literal r, and the set u, which is s with its clause
+pub record BitAdded (f t c : ℕ) (s : ClauseSet) (r : Lit) (u : ClauseSet) : Type 0 where
+  pub wrote : Wrote s (binary_bits 1 f t c s.vars).vars (binary_bits 1 f t c s.vars).clauses u
+  pub lits_are : r.0 ∷ [] ≡ (binary_bits 1 f t c s.vars).bits
 
 -- the same for n bits
-pub record BitsAdded (n f t c v : ℕ) (s : Stores) (r : EncodedBits) (s' : Stores) : Type 0 where
-  pub stores : s' ≡ add_clauses 0 (binary_bits n f t c v).clauses s
-  pub vars_are : r.vars ≡ (binary_bits n f t c v).vars
-  pub lits_are : r.lits ≡ pad (binary_bits n f t c v).bits
+pub record BitsAdded (n f t c : ℕ) (s : ClauseSet) (r : List Lit) (u : ClauseSet) : Type 0 where
+  pub wrote : Wrote s (binary_bits n f t c s.vars).vars (binary_bits n f t c s.vars).clauses u
+  pub lits_are : r ≡ pad (binary_bits n f t c s.vars).bits

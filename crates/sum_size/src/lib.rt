@@ -54,9 +54,9 @@ pub fn term_shape(coef: i32, bits: usize) -> TermShape
 }
 
 // The terms of a sum, as many as the list has; it has setting, coefficient, in turn.
-fn term_shapes(encodings: [LogEncoding; 32], terms: &[i32]) -> [TermShape; 7]
-    requires { TermsReady encodings terms.now }
-    ensures { (shapes_of (take (length terms.now / 2) result) ≡ term_shapes (shape_map_of encodings) (terms_of terms.now)) × ShapesFit (take (length terms.now / 2) result) }
+fn term_shapes(encodings: &[LogEncoding; 32], terms: &[i32]) -> [TermShape; 7]
+    requires { TermsReady encodings.now terms.now }
+    ensures { (shapes_of (take (length terms.now / 2) result) ≡ term_shapes (shape_map_of encodings.now) (terms_of terms.now)) × ShapesFit (take (length terms.now / 2) result) }
 {
     let none = TermShape {
         negative: false,
@@ -74,14 +74,14 @@ fn term_shapes(encodings: [LogEncoding; 32], terms: &[i32]) -> [TermShape; 7]
 
 // A sum of Eq, Ne or Ge; none where a column is above 12.
 fn linear_size(
-    encodings: [LogEncoding; 32],
+    encodings: &[LogEncoding; 32],
     op: u32,
     constant: i32,
     terms: &[i32],
 ) -> Option<RuleCounts>
-    requires terms_ready { TermsReady encodings terms.now }
+    requires terms_ready { TermsReady encodings.now terms.now }
     requires constant_bound { (up constant ≤ 1000001) × (down constant ≤ 1000001) }
-    ensures { Measured 2 (linear_log_reached (shape_map_of encodings) (op_of op) constant (terms_of terms.now)) (linear_log_size (shape_map_of encodings) (op_of op) constant (terms_of terms.now)) result }
+    ensures { Measured 2 (linear_log_reached (shape_map_of encodings.now) (op_of op) constant (terms_of terms.now)) (linear_log_size (shape_map_of encodings.now) (op_of op) constant (terms_of terms.now)) result }
 {
     let ts = term_shapes(encodings, terms);
     let k = offset_constant(encodings, constant, terms);
@@ -100,7 +100,5 @@ pub fn turned_size(
     ensures { Measured 2 (turned_reached (shape_map_of encodings) (cmp_op_of op) constant (terms_of terms.now)) (turned_size (shape_map_of encodings) (cmp_op_of op) constant (terms_of terms.now)) result }
 {
     let t = turned(op, constant, terms);
-    let n = terms.len();
-    let list = t.terms;
-    linear_size(encodings, t.op, t.constant, &list[..n])
+    linear_size(&encodings, t.op, t.constant, &t.terms[..terms.len()])
 }

@@ -39,13 +39,10 @@ fn sign_columns(ts: &[TermShape], sign: bool, constant: u32) -> Columns
     requires constant_bound { constant < 33554432 }
     ensures { ColumnsReach (sign_reached sign (shapes_of ts.now) constant) constant result }
 {
-    let c = sign_counts(ts, sign);
-    let counts = c.counts;
-    let width = adder_width(c.width, constant);
-    Columns {
-        counts: ColumnCounts { counts, width },
-        height: greatest_height(counts, width, constant),
-    }
+    let mut counts = sign_counts(ts, sign);
+    counts.width = adder_width(counts.width, constant);
+    let height = greatest_height(counts.columns(), constant);
+    Columns { counts, height }
 }
 
 // Ne or Ge of terms with the constant a - b; none where a column is above 12.
@@ -70,12 +67,13 @@ pub fn equation_size(ts: &[TermShape], a: u32, b: u32) -> Option<RuleCounts>
     requires a_bound { (a < 33554432) × (b < 33554432) }
     ensures { Measured 1 (linear_reached eq (shapes_of ts.now) a b) (terms_size eq (shapes_of ts.now) a b) result }
 {
-    let c = eq_counts(ts);
+    let counts = eq_counts(ts);
+    let columns = counts.columns();
     let target = b + negated_bits(ts);
     let x = a.saturating_sub(target);
     let y = target.saturating_sub(a);
-    if eq_greatest_height(c.counts, c.width, x, y) <= 12 {
-        Some(eq_size(c.columns(), x, y))
+    if eq_greatest_height(columns, x, y) <= 12 {
+        Some(eq_size(columns, x, y))
     } else {
         None
     }

@@ -2,8 +2,7 @@
 use Prim.Native.Nat.{◌*◌, ◌+◌, ◌<◌, ◌≤◌, suc, zero, ℕ}
 use lib.Dec.{eqb}
 use lib.IntN.{negsuc, pos, ℤ}
-use lib.ListN.{get_or, length, length-append, length-take, take}
-use lib.Seq.{take-length}
+use lib.ListN.{get_or, length, length-append, length-map, length-take, take}
 use mathlib.Core.Bool.{Bool, cond, false, true}
 use mathlib.Core.List.{List}
 use mathlib.Core.Path.{◌≡◌}
@@ -11,6 +10,7 @@ use native.Mathlib.Nat.{suc-mul}
 use native.Mathlib.Omega.{arith}
 use Rattle.arithmetic.specs.Integers.{down, up}
 use Rattle.arithmetic.proofs.Integers.{add_read, apart_read}
+use Rattle.sat.specs.LitArray.{num}
 use Rattle.log_var.specs.Record.{code_of_bytes, lits_of, read_bytes}
 use Rattle.log_var.specs.declared.LogEncoding.{LogEncoding}
 use Rattle.log_var.proofs.Reading.{code_small}
@@ -32,8 +32,7 @@ Small z = (up z ≤ 4095) × (down z ≤ 4095)
 -- twelve literals at most, whether the array is as long or not
 code_of_record : (bytes : List ℕ) (e : LogEncoding) → e.len ≤ 12 → code_of_bytes bytes (lits_of e) < 4096
 code_of_record bytes e h =
-    let ls = take e.len e.lits in
-    rw take-length at (code_small bytes (length ls) 0 ls (rw length-take (omega arith)) (omega arith))
+    code_small bytes (lits_of e) (omega (arith, length-map (take e.len e.lits) num, length-take e.len e.lits))
 
 read_small : (bytes : List ℕ) (e : LogEncoding) → Readable e → Small (read_bytes bytes e)
 read_small bytes e r =

@@ -1,7 +1,6 @@
 -- `log_domain::add_against` meets its contract. The loop's invariant: the literals left, stored next, come to all of them.
 use mathlib.Core.Path.{◌≡◌}
-use Prim.Native.Nat.{◌+◌, ◌-◌, ◌≤◌}
-use lib.ListN.{length}
+use Prim.Native.Nat.{◌+◌, ◌-◌}
 use lib.Seq.{sets}
 use Rattle.sat.specs.Fresh.{fresh}
 use Rattle.log_encoding.specs.Domain.{against}
@@ -9,8 +8,4 @@ use Rattle.log_domain.proofs.add_against.Given as goal
 
 abbrev pub invariant-loop-i : goal.invariant-loop-i
 invariant-loop-i l =
-    (l.i ≤ l.n) × (length l.lits ≡ length l.initial.lits)
-    × (sets l.initial.lits l.from (against (fresh l.n l.first.0) l.k) ≡ sets l.lits (l.from + l.i) (against (fresh (l.n - l.i) (l.first.0 + l.i)) l.x))
-
-abbrev pub decreases-loop-i : goal.decreases-loop-i
-decreases-loop-i l = l.n - l.i
+    sets l.initial.lits l.from (against (fresh l.n l.first.0) l.k) ≡ sets l.lits (l.from + l.i) (against (fresh (l.n - l.i) (l.first.0 + l.i)) l.x)

@@ -1,19 +1,31 @@
--- `log_var::read_code` meets its contract. The loop's invariant: the literals from i on spell k.
-use mathlib.Core.Path.{◌≡◌}
-use Prim.Native.Nat.{◌-◌, ◌≤◌}
+-- `log_var::read_code` meets its contract.
+use Rattle.std.proofs.Common.{rules}
+use Rattle.std.proofs.lemmas.List.{nil_from_length}
 use native.Mathlib.Omega.{arith}
-use lib.ListN.{length}
-use Rattle.log_var.proofs.Reading.{code_small, code_turn}
+use Rattle.std.specs.Iterator.Adapters.{rev_source}
+use Rattle.std.specs.Slice.Iter.{iter_rest}
+use mathlib.Core.Path.{subst, sym, ◌≡◌}
+use Rattle.log_var.proofs.Reading.{Read, read_end, read_small, read_start, read_turn}
 use Rattle.log_var.proofs.read_code.Goals as goal
-use Rattle.log_var.proofs.read_code.Goals.{Start}
 
-whole : (c : Start) → length c.args.lits ≡ 12
-whole c = c.well_formed.0.1.0.1
+pub loop-l-init : goal.loop-l-init
+loop-l-init c =
+    let lits = c.args.lits.now in
+    let all : iter_rest (rev_source c.into_iter-l-iterator.result) ≡ lits = search rules in
+    subst (λ left. Read c.args.assignment.now lits left 0) (sym all) (read_start c.args.assignment.now lits)
 
-pub loop-i-preserved : goal.loop-i-preserved
-loop-i-preserved c =
-    let a = c.args in
-    let l = c.loop-i in
-    let long : a.n ≤ length a.lits = omega (arith, whole (goal.at.loop-i-preserved c).Start, c.requires) in
-    let e = code_turn a.assignment.now a.lits a.n l.i l.k c.holds.result c.loop-i-test.true l.invariant.0 long l.invariant.1 c.holds.ensures in
-    (omega arith, e, omega (arith, e, code_small a.assignment.now a.n (l.i - 1) a.lits c.requires long))
+pub overflow_mul-k : goal.overflow_mul-k
+overflow_mul-k c = let k = read_small c.loop-l.invariant c.requires in omega arith
+
+pub overflow_add-k : goal.overflow_add-k
+overflow_add-k c =
+    let turn = read_turn c.loop-l.invariant _ c.in-Some.l.now c.holds.result c.in-Some.ensures.steps c.holds.ensures in
+    let k = read_small turn c.requires in
+    omega arith
+
+pub loop-l-preserved : goal.loop-l-preserved
+loop-l-preserved c = read_turn c.loop-l.invariant _ c.in-Some.l.now c.holds.result c.in-Some.ensures.steps c.holds.ensures
+
+pub returns : goal.returns
+returns c =
+    (read_end c.loop-l.invariant (nil_from_length _ c.in-None.ensures.steps.0), read_small c.loop-l.invariant c.requires)

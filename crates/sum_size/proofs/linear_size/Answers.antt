@@ -20,10 +20,10 @@ constant-is s = to_z-of_z w32 s.args.constant s.ranges.constant
 
 -- the constant with the offsets
 sum_is : (c : After-offset_constant-k)
-    → to_z w32 (of_z w32 c.offset_constant-k.result) ≡ offset_constant (int_map_of c.args.encodings) c.args.constant (terms_of c.args.terms.now)
+    → to_z w32 (of_z w32 c.offset_constant-k.result) ≡ offset_constant (int_map_of c.args.encodings.now) c.args.constant (terms_of c.args.terms.now)
 sum_is c =
     to_z-of_z w32 c.offset_constant-k.result (record { sfits = c.offset_constant-k.type_inv }) ∙ c.offset_constant-k.ensures.0
-    ∙ ap (λ (z : ℤ). offset_constant (int_map_of c.args.encodings) z (terms_of c.args.terms.now)) (constant-is c.before.before)
+    ∙ ap (λ (z : ℤ). offset_constant (int_map_of c.args.encodings.now) z (terms_of c.args.terms.now)) (constant-is c.before.before)
 
 pub returns : goal.returns
 returns c =

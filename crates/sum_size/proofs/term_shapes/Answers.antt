@@ -40,10 +40,10 @@ loop-i-preserved c =
     let e = coef-is (goal.at.loop-i-preserved c).After-coef_at in
     let b = ap (λ (z : SettingShape). z.bits) c.setting_shape-s.ensures.0 in
     let x = c.setting_at-x.ensures.0 in
-    shaping_turn (shape_map_of c.args.encodings) l.invariant c.requires.few c.term_shape.result (c.loop-i-test.true)
-    (t.0 ∙ (λ i. weighted_shape (e i) (b i)) ∙ (λ i. weighted_shape (get_or c.args.terms.now (2 * l.i + 1) (pos 0)) (shape_map_of c.args.encodings (x i)).bits)) t.1
+    shaping_turn (shape_map_of c.args.encodings.now) l.invariant c.requires.few c.term_shape.result (c.loop-i-test.true)
+    (t.0 ∙ (λ i. weighted_shape (e i) (b i)) ∙ (λ i. weighted_shape (get_or c.args.terms.now (2 * l.i + 1) (pos 0)) (shape_map_of c.args.encodings.now (x i)).bits)) t.1
 
 pub returns : goal.returns
 returns c =
     let l = c.loop-i in
-    shaping_end (shape_map_of c.args.encodings) l.invariant c.requires.few (c.loop-i-test.false)
+    shaping_end (shape_map_of c.args.encodings.now) l.invariant c.requires.few (c.loop-i-test.false)

@@ -1,7 +1,6 @@
 -- `terms_size::equation_size` meets its contract.
 use Prim.Native.Nat.{◌+◌, ℕ}
 use borrow.Author.Tests.{lt-ltb}
-use lib.ListN.{take}
 use mathlib.Core.Path.{◌∙◌, ◌≡◌, ap}
 use native.Mathlib.Omega.{arith}
 use Rattle.norm_csp.specs.NormOp.{eq}
@@ -14,11 +13,11 @@ use Rattle.terms_size.proofs.equation_size.Goals as goal
 use Rattle.terms_size.proofs.equation_size.Goals.{After-eq_greatest_height}
 
 -- the columns reached
-reaches : (c : After-eq_greatest_height) → let k = c.eq_counts-c.result in
-    eq_reached (take k.width k.counts) c.saturating_sub-x.result c.saturating_sub-y.result 0 ≡ linear_reached eq (shapes_of c.args.ts.now) c.args.a c.args.b
+reaches : (c : After-eq_greatest_height)
+    → eq_reached c.columns-columns.result.now c.saturating_sub-x.result c.saturating_sub-y.result 0 ≡ linear_reached eq (shapes_of c.args.ts.now) c.args.a c.args.b
 reaches c =
     eq_reaches (shapes_of c.args.ts.now) c.args.a c.args.b _ c.saturating_sub-x.result c.saturating_sub-y.result _
-    (taken c.eq_counts-c.ensures) (ap (λ (n : ℕ). c.args.b + n) c.negated_bits.ensures.0) c.saturating_sub-x.ensures c.saturating_sub-y.ensures
+    (c.columns-columns.ensures ∙ taken c.eq_counts-counts.ensures) (ap (λ (n : ℕ). c.args.b + n) c.negated_bits.ensures.0) c.saturating_sub-x.ensures c.saturating_sub-y.ensures
 
 height-is : (c : After-eq_greatest_height) → c.eq_greatest_height.result ≡ greatest_height (linear_reached eq (shapes_of c.args.ts.now) c.args.a c.args.b)
 height-is c = c.eq_greatest_height.ensures ∙ ap greatest_height (reaches c)
@@ -30,5 +29,5 @@ returns-else-eq_greatest_height-le12 c =
 pub returns-then-eq_greatest_height-le12 : goal.returns-then-eq_greatest_height-le12
 returns-then-eq_greatest_height-le12 c =
     equation_measured (shapes_of c.args.ts.now) c.args.a c.args.b _ c.saturating_sub-x.result c.saturating_sub-y.result _
-    (c.columns.ensures ∙ taken c.eq_counts-c.ensures) (ap (λ (n : ℕ). c.args.b + n) c.negated_bits.ensures.0) c.saturating_sub-x.ensures c.saturating_sub-y.ensures
+    (c.columns-columns.ensures ∙ taken c.eq_counts-counts.ensures) (ap (λ (n : ℕ). c.args.b + n) c.negated_bits.ensures.0) c.saturating_sub-x.ensures c.saturating_sub-y.ensures
     c.eq_size.result (omega (arith, height-is (goal.at.returns-then-eq_greatest_height-le12 c).After-eq_greatest_height, c.if-eq_greatest_height-le12.true)) c.eq_size.ensures

@@ -1,13 +1,13 @@
 -- `ClauseSet::push` meets its contract.
-use mathlib.Core.Path.{◌≡◌, ap, refl, ◌∙◌}
+use mathlib.Core.Path.{◌≡◌, ap, refl, sym, ◌∙◌}
 use mathlib.Core.List.{List, map}
 use Prim.Native.Nat.{ℕ, ◌+◌}
 use native.Mathlib.Omega.{arith}
-use lib.ListN.{get_or, length, length-map, set, take}
+use lib.ListN.{get_or, length-map, set, take}
 use lib.Seq.{sets, take_all}
 use Rattle.sat.specs.LitArray.{num}
-use Rattle.clause_set.specs.Stores.{stores_of}
-use Rattle.clause_set.proofs.Adding.{lits_fit, lits_more, one_added}
+use Rattle.clause_set.proofs.Adding.{lits_fit, lits_more}
+use Rattle.clause_set.proofs.Writing.{closed_clause}
 use Rattle.clause_set.proofs.ClauseSet.push.Goals as goal
 
 pub loop-i-preserved : goal.loop-i-preserved
@@ -25,14 +25,6 @@ returns-clause-added c =
     let xs = c.args.clause.now in
     let k = c.min-stored.result in
     let all : take l.i (take k xs) ≡ take k xs = take_all l.i (take k xs) (omega arith) in
-    record {
-      same_lits = refl;
-      same_ends = refl;
-      same_base = refl;
-      vars_are = refl;
-      stores_are =
-          one_added s.base (stores_of s) (map num xs) l.lits c.put.new.store (s.used.lits + length xs)
-          (l.invariant ∙ ap (λ ys. sets s.lits.now s.used.lits (map num ys)) all ∙ lits_fit xs s.lits.now s.used.lits k (omega (arith, c.min-stored.ensures, c.saturating_sub.ensures)))
-          (omega (arith, length-map xs num))
-          c.put.ensures;
-    }
+    closed_clause (map num xs) c.close.ensures (sym (length-map xs num)) refl
+    (l.invariant ∙ ap (λ ys. sets s.lits.now s.used.lits (map num ys)) all ∙ lits_fit xs s.lits.now s.used.lits k (omega (arith, c.min-stored.ensures, c.saturating_sub.ensures)))
+    refl refl refl refl

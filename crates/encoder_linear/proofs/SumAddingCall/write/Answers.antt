@@ -1,9 +1,13 @@
 -- `encoder_linear::Sum::write` meets its contract.
-use mathlib.Core.Path.{◌≡◌}
+use mathlib.Core.Path.{◌≡◌, ap, ap₂}
 use native.Mathlib.Omega.{arith}
 use mir.Syntax.{w32}
 use mir.Val.{of_z, to_z}
 use mir.ValLaws.{to_z-of_z}
+use Rattle.clause_set.specs.declared.Counts.{Counts}
+use Rattle.norm_csp.specs.Rules.{cmp_op_of, terms_of}
+use Rattle.log_encoding.specs.Turned.{encode_turned}
+use Rattle.encoder_env.specs.WellFormed.{int_map}
 use Rattle.log_sum.proofs.Offsets.{small_fits}
 use Rattle.encoder_answer.proofs.Answering.{rule_wrote}
 use Rattle.encoder_answer.proofs.Ready.{counts_ready}
@@ -13,30 +17,33 @@ use Rattle.encoder_linear.proofs.SumAddingCall.write.Goals as goal
 use Rattle.encoder_linear.proofs.SumAddingCall.write.Goals.{Start}
 
 -- the sum passed its checks
-known : (c : Start) → let s = c.args.self.now in SumKnown c.args.env c.requires.0 c.requires.1 s.op s.constant s.terms.now
-known c = let s = c.args.self.now in sum_known c.args.env c.requires.0 c.requires.1 s.op s.constant s.terms.now c.requires.2
+known : (c : Start) → let s = c.args.self.now in SumKnown c.args.env c.requires.passed.0 c.requires.passed.1 s.op s.constant s.terms.now
+known c = let s = c.args.self.now in let p = c.requires.passed in sum_known c.args.env p.0 p.1 s.op s.constant s.terms.now p.2
 
 -- the constant, as `encode_turned` has it
 same : (c : Start) → let s = c.args.self.now in to_z w32 (of_z w32 s.constant) ≡ s.constant
 same c = let k = (known c).arguments in to_z-of_z w32 c.args.self.now.constant (small_fits c.args.self.now.constant (omega (arith, k.constant_small)) (omega (arith, k.constant_small)))
 
-pub encode_turned-new-requires-clause-terms_ready : goal.encode_turned-new-requires-clause-terms_ready
-encode_turned-new-requires-clause-terms_ready c = terms_ready _ _ _ _ _ _ (known (goal.at.encode_turned-new-requires-clause-terms_ready c).Start).arguments
-
-pub encode_turned-new-requires-clause-constant_bound : goal.encode_turned-new-requires-clause-constant_bound
-encode_turned-new-requires-clause-constant_bound c =
-    let s = (goal.at.encode_turned-new-requires-clause-constant_bound c).Start in
-    let k = (known s).arguments in
-    let r = counts_ready _ _ _ k.holds in
-    rw (same s, c.counts_of-at.ensures) (omega (arith, k.constant_small), omega (arith, k.constant_small), r.0, r.1, r.2)
-
-pub encode_turned-new-requires-clause-terms_value : goal.encode_turned-new-requires-clause-terms_value
-encode_turned-new-requires-clause-terms_value c =
-    let s = (goal.at.encode_turned-new-requires-clause-terms_value c).Start in
-    rw (same s) (known s).heights
+pub encode_turned-requires : goal.encode_turned-requires
+encode_turned-requires c =
+    let s = (goal.at.encode_turned-requires c).Start in
+    let k = known s in
+    let r = counts_ready _ _ _ k.arguments.holds in
+    let j = c.requires.job in
+    rw (same s)
+    (record {
+      terms_ready = terms_ready _ _ _ _ _ _ k.arguments;
+      constant_bound = (
+        omega (arith, k.arguments.constant_small),
+        omega (arith, k.arguments.constant_small),
+        omega (arith, j.vars, r.0),
+        (omega (arith, j.base, ap (λ (a : Counts). a.lits) j.used, r.1), omega (arith, ap (λ (a : Counts). a.clauses) j.used, r.2)),
+      );
+      terms_value = k.heights;
+    })
 
 pub returns : goal.returns
 returns c =
-    let s = (goal.at.returns c).Start in
-    let wrote = rw (same s) at c.encode_turned-new.ensures in
-    rule_wrote _ _ _ _ c.counts_of-at.ensures wrote c.from.ensures
+    let s = c.args.self.now in
+    rule_wrote c.encode_turned.ensures
+    (ap₂ (λ k v. encode_turned (int_map c.args.env) (cmp_op_of s.op) k (terms_of s.terms.now) v) (same (goal.at.returns c).Start) c.requires.job.vars)

@@ -1,11 +1,11 @@
 -- `encoder_var::kinds::NewSetting::write` meets its contract.
-use Rattle.encoder_var.proofs.Settings.{admitted, setting_wrote}
+use Rattle.encoder_var.proofs.Settings.{admitted, admitted_ready, setting_wrote}
 use Rattle.encoder_var.proofs.kinds.NewSettingAddingCall.write.Goals as goal
 
-pub encode-new-requires : goal.encode-new-requires
-encode-new-requires g c =
-    let a = c.args in
-    rw c.counts_of-at.ensures (admitted a.env c.requires.0 c.requires.1 (g.S.Setting.repr a.self.now.0) c.requires.2).ready
+pub encode-requires : goal.encode-requires
+encode-requires g c =
+    let p = c.requires.passed in
+    admitted_ready (admitted c.args._env p.0 p.1 (g.S.Setting.repr c.args.self.now.0) p.2) c.requires.job
 
 pub returns : goal.returns
-returns g c = let a = c.args in setting_wrote a.env (g.S.Setting.repr a.self.now.0) _ _ c.counts_of-at.ensures c.encode-new.ensures c.from.ensures
+returns g c = setting_wrote c.args._env (g.S.Setting.repr c.args.self.now.0) c.requires.job c.encode.ensures
