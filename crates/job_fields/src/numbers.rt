@@ -1,5 +1,5 @@
 // Numbers of several bytes, high byte first; signed ones as two's complement.
-ghost use Rattle.std.specs.Prelude.{◌≡◌, length, take, ◌*◌, ◌+◌, ◌/◌, ◌<◌, ◌≤◌};
+ghost use Rattle.std.specs.Prelude.{◌≡◌, length, MatchOption, ◌*◌, ◌+◌, ◌/◌, ◌<◌, ◌≤◌};
 ghost use Rattle.job_fields.specs.Numbers.{signed_long, signed_word, terms as Numbers·terms, values as Numbers·values, word_at};
 
 // Two bytes from i on.
@@ -26,26 +26,25 @@ pub fn signed_long(s: &[u8], i: usize) -> i32
     i32::from_be_bytes([s[i], s[i + 1], s[i + 2], s[i + 3]])
 }
 
-// The values, put into the first entries of `out`.
-pub fn values(s: &[u8], out: &mut [i32])
-    requires { length s.now / 2 ≤ length out.old }
-    ensures { take (length s.now / 2) out.new ≡ Numbers·values s.now }
+// The values, at the start of `out`, if there is room.
+pub fn values<'a>(s: &[u8], out: &'a mut [i32]) -> Option<&'a [i32]>
+    ensures { MatchOption result (length out.old < length s.now / 2) (λ zs. (length s.now / 2 ≤ length out.old) × (zs.now ≡ Numbers·values s.now)) }
 {
+    let part = out.get_mut(..s.len() / 2)?;
     for i in 0..s.len() / 2 {
-        let z = signed_word(s, 2 * i);
-        out[i] = z;
+        part[i] = signed_word(s, 2 * i);
     }
+    Some(part)
 }
 
-// The terms, put into the first entries of `out`: setting and coefficient in turn.
-pub fn terms(s: &[u8], out: &mut [i32])
-    requires { 2 * (length s.now / 3) ≤ length out.old }
-    ensures { take (2 * (length s.now / 3)) out.new ≡ Numbers·terms s.now }
+// The terms, at the start of `out`, if there is room: setting and coefficient in turn.
+pub fn terms<'a>(s: &[u8], out: &'a mut [i32]) -> Option<&'a [i32]>
+    ensures { MatchOption result (length out.old < 2 * (length s.now / 3)) (λ zs. (2 * (length s.now / 3) ≤ length out.old) × (zs.now ≡ Numbers·terms s.now)) }
 {
+    let part = out.get_mut(..2 * (s.len() / 3))?;
     for i in 0..s.len() / 3 {
-        let x = i32::from(s[3 * i]);
-        let k = signed_word(s, 3 * i + 1);
-        out[2 * i] = x;
-        out[2 * i + 1] = k;
+        part[2 * i] = i32::from(s[3 * i]);
+        part[2 * i + 1] = signed_word(s, 3 * i + 1);
     }
+    Some(part)
 }

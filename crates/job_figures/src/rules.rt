@@ -17,14 +17,11 @@ fn linear(env: EncoderEnv, s: &[u8]) -> Result<Figures, Refusal>
 {
     let op = u32::from(s[0]);
     let constant = numbers::signed_long(s, 1);
-    let n = 2 * ((s.len() - 5) / 3);
-    if 12 < n {
-        let many = [0i32; 14];
-        return linear_figures(env, op, constant, &many);
+    let mut room = [0i32; 12];
+    match numbers::terms(&s[5..], &mut room) {
+        Some(terms) => linear_figures(env, op, constant, terms),
+        None => linear_figures(env, op, constant, &[0; 14]),
     }
-    let mut terms = [0i32; 12];
-    numbers::terms(&s[5..], &mut terms);
-    linear_figures(env, op, constant, &terms[..n])
 }
 
 // Tag 06: x, y, m.

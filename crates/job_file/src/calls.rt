@@ -45,14 +45,11 @@ fn list(
 ) -> Result<EncoderEnv, Refusal>
     ensures { Answers (called (state env lits.old ends.old) 3 s.now) (adds env result) lits.new ends.new }
 {
-    let n = s.len() / 2;
-    if 64 < n {
-        let many = [0i32; 65];
-        return encoder::encode_list(env, lits, ends, &many);
+    let mut room = [0i32; 64];
+    match numbers::values(s, &mut room) {
+        Some(values) => encoder::encode_list(env, lits, ends, values),
+        None => encoder::encode_list(env, lits, ends, &[0; 65]),
     }
-    let mut values = [0i32; 64];
-    numbers::values(s, &mut values);
-    encoder::encode_list(env, lits, ends, &values[..n])
 }
 
 // Tag 04: switch literal, f, t.
@@ -83,14 +80,11 @@ fn linear(
 {
     let op = u32::from(s[0]);
     let constant = numbers::signed_long(s, 1);
-    let n = 2 * ((s.len() - 5) / 3);
-    if 12 < n {
-        let many = [0i32; 14];
-        return encode_linear(env, lits, ends, op, constant, &many);
+    let mut room = [0i32; 12];
+    match numbers::terms(&s[5..], &mut room) {
+        Some(terms) => encode_linear(env, lits, ends, op, constant, terms),
+        None => encode_linear(env, lits, ends, op, constant, &[0; 14]),
     }
-    let mut terms = [0i32; 12];
-    numbers::terms(&s[5..], &mut terms);
-    encode_linear(env, lits, ends, op, constant, &terms[..n])
 }
 
 // Tag 06: x, y, m.

@@ -6,7 +6,8 @@ ghost use Rattle.std.specs.Prelude.{◌≡◌, false, true, [], ◌∷◌, ◌++
 ghost use Rattle.arithmetic.specs.Bits.{bit_length};
 ghost use Rattle.arithmetic.specs.Integers.{down, up};
 ghost use Rattle.clause_set.specs.Stores.{AddedRule, Below};
-ghost use Rattle.norm_csp.specs.NormOp.{eq, op_of};
+ghost use Rattle.norm_csp.specs.NormOp.{eq};
+ghost use Rattle.norm_csp.specs.Operations.{normalized};
 ghost use Rattle.log_encoding.specs.Adder2.{eq_adder};
 ghost use Rattle.log_encoding.specs.AdderSize.{greatest_height, too_tall};
 ghost use Rattle.log_encoding.specs.EncodeLinearLog.{encode_weighted, eq_rule};
@@ -21,6 +22,7 @@ use log_adder::{greatest_height, log_encoding_adder};
 use log_adder2::{eq_greatest_height, log_encoding_adder2};
 use log_linear::{Bits, push_comparison};
 use log_terms::{Weighted, gather, gather_sign, negated_constant, width_of, width_of_sign};
+use norm_csp::NormOp;
 
 // How many columns the adder of one sign has, with a constant's bits.
 fn adder_width(ts: &[Weighted], sign: bool, steps: usize, constant: u32) -> usize
@@ -152,39 +154,41 @@ fn weighted_eq(set: &mut ClauseSet<'_>, ts: &[Weighted], steps: usize, a: u32, b
 }
 
 // The greatest height of a column that a sum of terms reaches. Operation 0 is Eq, 1 Ne, 2 Ge.
-pub fn weighted_height(op: u32, ts: &[Weighted], steps: usize, constant: i32) -> u32
+pub fn weighted_height(op: NormOp, ts: &[Weighted], steps: usize, constant: i32) -> u32
     requires terms_fit { TermsFit steps ts.now }
     requires constant_bound { (up constant < 33554432) × (down constant < 33554432) }
-    ensures { result ≡ greatest_height (linear_reached (op_of op) (shapes_all ts.now) (up constant) (down constant)) }
+    ensures { result ≡ greatest_height (linear_reached (normalized op) (shapes_all ts.now) (up constant) (down constant)) }
 {
     let a = arithmetic::up(constant);
     let b = arithmetic::down(constant);
-    if op == 0 {
-        return eq_height(ts, steps, a, b);
+    match op {
+        NormOp::Eq => eq_height(ts, steps, a, b),
+        NormOp::Ne | NormOp::Ge => {
+            let positive = sign_height(ts, false, steps, a);
+            let negative = sign_height(ts, true, steps, b);
+            positive.max(negative)
+        }
     }
-    let positive = sign_height(ts, false, steps, a);
-    let negative = sign_height(ts, true, steps, b);
-    positive.max(negative)
 }
 
 // The clauses of a sum of terms, after `encode_linear_log_from_encodings` of log.rs: its columns fit.
 pub fn encode_weighted(
     set: &mut ClauseSet<'_>,
-    op: u32,
+    op: NormOp,
     ts: &[Weighted],
     steps: usize,
     constant: i32,
 )
     requires terms_fit { TermsFit steps ts.now }
     requires constant_bound { (up constant < 33554432) × (down constant < 33554432) × (set.old.vars ≤ 1000000) × Below (2 ^ 24 + 1) set.old }
-    requires constant_value { too_tall (linear_reached (op_of op) (shapes_all ts.now) (up constant) (down constant)) ≡ false }
-    ensures { AddedRule set.old (encode_weighted (op_of op) (map weighted_of ts.now) constant set.old.vars) set.new }
+    requires constant_value { too_tall (linear_reached (normalized op) (shapes_all ts.now) (up constant) (down constant)) ≡ false }
+    ensures { AddedRule set.old (encode_weighted (normalized op) (map weighted_of ts.now) constant set.old.vars) set.new }
 {
     let a = arithmetic::up(constant);
     let b = arithmetic::down(constant);
-    if op == 0 {
-        weighted_eq(set, ts, steps, a, b);
-    } else {
-        weighted_comparison(set, op == 1, ts, steps, a, b);
+    match op {
+        NormOp::Eq => weighted_eq(set, ts, steps, a, b),
+        NormOp::Ne => weighted_comparison(set, true, ts, steps, a, b),
+        NormOp::Ge => weighted_comparison(set, false, ts, steps, a, b),
     }
 }

@@ -3,3 +3,4 @@ pub mod Rules
 pub mod NormOp
 pub mod Turned
 pub mod NormCsp
+pub mod Operations

@@ -1,5 +1,5 @@
 -- `log_gather::push_scaled` meets its contract.
-use Prim.Native.Nat.{◌%◌, ◌*◌, ◌+◌, ◌/◌, ◌^◌, ◌<◌, ◌≤◌, ℕ}
+use Prim.Native.Nat.{◌%◌, ◌+◌, ◌/◌, ◌^◌, ◌<◌, ◌≤◌, ℕ}
 use mathlib.Core.Path.{◌≡◌}
 use mathlib.Core.List.{map}
 use native.Mathlib.Nat.{add-zero, mul-le-mul_left}

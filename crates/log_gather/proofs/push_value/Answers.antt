@@ -1,11 +1,10 @@
 -- `log_gather::push_value` meets its contract.
 use Prim.Native.Nat.{◌+◌, ◌<◌}
-use mathlib.Core.Path.{◌≡◌, ap}
-use mathlib.Core.List.{List, map, [], ◌∷◌}
+use mathlib.Core.Path.{◌≡◌}
+use mathlib.Core.List.{map, [], ◌∷◌}
 use native.Mathlib.Omega.{arith}
 use lib.ListN.{get_or, length, take}
 use lib.Seq.{take_all}
-use Rattle.sat.specs.declared.Lit.{Lit}
 use Rattle.sat.specs.LitArray.{first_lits, lit, num}
 use Rattle.log_encoding.specs.Gather.{push_value}
 use Rattle.log_gather.specs.Arrays.{Pushed}

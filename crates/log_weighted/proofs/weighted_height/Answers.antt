@@ -1,5 +1,4 @@
 -- `log_weighted::weighted_height` meets its contract.
--- the two parts of the constant
 use mathlib.Core.Path.{◌≡◌, ap, ◌∙◌}
 use mathlib.Core.Bool.{false, true}
 use Prim.Native.Nat.{max, ℕ}
@@ -19,10 +18,9 @@ a-is c = c.up-a.ensures ∙ ap up (to_z-of_z w32 c.args.constant c.ranges.consta
 b-is : (c : After-down-b) → c.down-b.result ≡ down c.args.constant
 b-is c = c.down-b.ensures ∙ ap down (to_z-of_z w32 c.args.constant c.ranges.constant)
 
-pub returns : goal.returns
-returns c =
+pub returns-in-Ne : goal.returns-in-Ne
+returns-in-Ne c =
     let h = shapes_all c.args.ts.now in
-    let p = c.sign_height-positive.ensures ∙ ap (λ (x : ℕ). greatest_height (sign_reached false h x)) (a-is (goal.at.returns c).After-up-a) in
-    let m = c.sign_height-negative.ensures ∙ ap (λ (x : ℕ). greatest_height (sign_reached true h x)) (b-is (goal.at.returns c).After-down-b) in
-    c.max.ensures ∙ (λ i. max (p i) (m i))
-    ∙ higher_part c.args.op c.if-op-eq0.false h (up c.args.constant) (down c.args.constant)
+    let p = c.sign_height-positive.ensures ∙ ap (λ (x : ℕ). greatest_height (sign_reached false h x)) (a-is (goal.at.returns-in-Ne c).After-up-a) in
+    let m = c.sign_height-negative.ensures ∙ ap (λ (x : ℕ). greatest_height (sign_reached true h x)) (b-is (goal.at.returns-in-Ne c).After-down-b) in
+    c.max.ensures ∙ (λ i. max (p i) (m i)) ∙ higher_part h (up c.args.constant) (down c.args.constant) c.in-Ne.is
