@@ -52,35 +52,28 @@ pub fn turned(op: u32, constant: i32, terms: &[i32]) -> LinearLit
     requires constant_bound { (up constant ≤ 1000000) × (down constant ≤ 1000000) }
     ensures { Turns (cmp_op_of op) constant terms.now result }
 {
-    if op < 3 {
-        let as_given = signed_terms(false, terms);
-        return LinearLit {
+    let terms = signed_terms(op == 3 || op == 4, terms);
+    match op {
+        0..=2 => LinearLit {
             op,
             constant,
-            terms: as_given,
-        };
-    }
-    if op == 3 {
-        let negated = signed_terms(true, terms);
-        return LinearLit {
+            terms,
+        },
+        3 => LinearLit {
             op: 2,
             constant: -constant,
-            terms: negated,
-        };
-    }
-    if op == 4 {
-        let negated = signed_terms(true, terms);
-        return LinearLit {
+            terms,
+        },
+        4 => LinearLit {
             op: 2,
             constant: -(constant + 1),
-            terms: negated,
-        };
-    }
-    let as_given = signed_terms(false, terms);
-    LinearLit {
-        op: 2,
-        constant: constant - 1,
-        terms: as_given,
+            terms,
+        },
+        _ => LinearLit {
+            op: 2,
+            constant: constant - 1,
+            terms,
+        },
     }
 }
 
