@@ -2,23 +2,26 @@
 use mathlib.Core.Path.{◌≡◌, ap, ◌∙◌}
 use mathlib.Core.Bool.{false}
 use mathlib.Core.List.{List, [], ◌∷◌, map}
-use Prim.Native.Nat.{ℕ, suc, zero, ◌+◌, ◌*◌, ◌≤◌}
+use Prim.Native.Nat.{ℕ, suc, zero, ◌+◌, ◌*◌, ◌^◌, ◌≤◌}
 use native.Mathlib.Omega.{arith}
-use lib.ListN.{length, length-append}
+use lib.ListN.{length, length-append, length-map}
 use Rattle.sat.specs.Encoded.{EncodedBits}
 use Rattle.sat.specs.Size.{entries}
-use Rattle.clause_set.specs.Stores.{Stores, after}
-use Rattle.clause_set.specs.declared.Counts.{Counts}
+use Rattle.clause_set.specs.declared.ClauseSet.{ClauseSet}
+use Rattle.clause_set.proofs.Writing.{wrote_clauses, wrote_lits}
+use Rattle.sat.specs.declared.Lit.{Lit}
+use Rattle.sat.specs.LitArray.{num}
+use Rattle.log_linear.specs.declared.Bits.{Bits}
+use Rattle.log_product.specs.Ready.{FactorsReady}
+use lib.Dec.{lit<}
 use Rattle.sat.proofs.Size.{entries_append}
-use Rattle.clause_set.proofs.Adding.{count_after, used_after}
 use Rattle.log_encoding.specs.Adder.{adder}
 use Rattle.log_encoding.specs.Gather.{Grid, pad_columns}
 use Rattle.log_encoding.specs.AdderSize.{ColumnShape, column_shape, pad_shapes, reached, too_tall}
 use Rattle.log_encoding.proofs.AdderSize.{pad_columns_shapes}
-use Rattle.log_mul.specs.Added.{MultiplierAdded}
+use Rattle.log_mul.specs.Added.{MultiplierAdded, MultiplierReady}
 use Rattle.log_encoding.specs.Multiply.{multiplier, row, rows, rows_grid, rows_vars}
 use Rattle.log_encoding.specs.MulSize.{multiplier_reached, rows_counts}
-use Rattle.log_mul.specs.declared.Multiplied.{Multiplied}
 use Rattle.log_mul.proofs.Numbered.{multiplier_few}
 use Rattle.log_mul.proofs.Rows.{gates_most, row_size}
 use Rattle.log_encoding.proofs.MulSize.{multiplier_size, rows_grid_counts}
@@ -62,9 +65,18 @@ multiplier_most xs ys v h k t =
     record { lits = omega (arith, most.lits); clauses = omega (arith, most.clauses) }
 
 -- the counts after it
-pub multiplied_most : {d e d' e' : List ℕ} {mul : EncodedBits} {a : Counts} {r : Multiplied} → MultiplierMost mul → MultiplierAdded d e mul a d' e' r
-    → (r.used.lits ≤ a.lits + 377488368) × (r.used.clauses ≤ a.clauses + 25166256)
-multiplied_most {d} {e} {mul = mul} {a = a} m w =
-    let x = ap (λ (s : Stores). s.used) w.stores ∙ used_after 0 mul.clauses (after d e a) in
-    let y = ap (λ (s : Stores). s.count) w.stores ∙ count_after 0 mul.clauses (after d e a) in
-    (omega (arith, m.lits), omega (arith, m.clauses))
+pub multiplied_most : {s t : ClauseSet} {mul : EncodedBits} {r : Bits} → MultiplierMost mul → MultiplierAdded s mul t r
+    → (t.used.lits ≤ s.used.lits + 377488368) × (t.used.clauses ≤ s.used.clauses + 25166256)
+multiplied_most m w = (omega (arith, m.lits, wrote_lits w.wrote), omega (arith, m.clauses, wrote_clauses w.wrote))
+
+-- a multiplier with no given result
+module _ {x y : List Lit} {s : ClauseSet} (f : FactorsReady x y s) where
+  pub factors_ready : {t : ClauseSet} → t.vars ≤ 1000000 → t.base + t.used.lits ≤ 2 ^ 29 → t.used.clauses ≤ 2 ^ 29 → MultiplierReady x y [] t
+  factors_ready v l n =
+      record { x_len = f.x_len; y_len = f.y_len; m_len = omega arith; low = λ k. lit< tt; vars = v; lits = l; clauses = n; heights = f.heights }
+
+  pub factors_most : (v : ℕ) → MultiplierMost (multiplier (map num x) (map num y) [] v)
+  factors_most v =
+      let xl = length-map x num in
+      let yl = length-map y num in
+      multiplier_most (map num x) (map num y) v (omega (arith, f.x_len)) (omega (arith, f.y_len)) ((λ i. too_tall (multiplier_reached (xl i) (yl i) 0)) ∙ f.heights)

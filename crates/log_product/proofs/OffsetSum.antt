@@ -1,5 +1,5 @@
 -- A product with offsets: Eq's ordering clauses, the multiplier's clauses and Eq's returned set are the definition's.
-use mathlib.Core.Path.{◌≡◌, refl, ap, sym, ◌∙◌}
+use mathlib.Core.Path.{◌≡◌, refl, ap, subst, sym, ◌∙◌}
 use mathlib.Core.Bool.{Bool, false, true}
 use mathlib.Core.List.{List, [], ◌∷◌, ◌++◌, map}
 use Prim.Native.Nat.{ℕ, ◌+◌, ◌-◌, ◌≤◌}
@@ -8,25 +8,25 @@ use lib.IntN.{ℤ}
 use lib.ListN.{length, take}
 use Rattle.arithmetic.specs.Integers.{down, up}
 use Rattle.sat.specs.Clause.{Clauses}
-use Rattle.sat.specs.Encoded.{EncodedBits}
-use Rattle.sat.specs.declared.Lit.{Lit}
-use Rattle.clause_set.specs.Stores.{Stores, add_clauses, after}
-use Rattle.clause_set.specs.declared.Counts.{Counts}
-use Rattle.clause_set.proofs.Adding.{add_append}
+use Rattle.sat.specs.Encoded.{EncodedBits, EncodedRule}
+use Rattle.clause_set.specs.Stores.{AddedRule, Wrote}
+use Rattle.clause_set.specs.declared.ClauseSet.{ClauseSet}
+use Rattle.clause_set.proofs.Writing.{wrote_as, wrote_then}
+use Rattle.log_adder.specs.declared.Columns.{Columns}
 use Rattle.norm_csp.specs.NormOp.{eq}
 use Rattle.log_encoding.specs.LogEncoding.{LogEncoding}
 use Rattle.log_encoding.specs.VarSize.{setting_shape}
 use Rattle.log_encoding.specs.Adder2.{Adder2Output, EncodedEq, adder2, eq_adder, eq_columns, last_column, returned_set}
 use Rattle.log_encoding.specs.Gather.{Grid}
 use Rattle.log_encoding.specs.AdderSize.{eq_reached, own_counts, too_tall}
-use Rattle.log_adder2.specs.EqState.{CarriesOrdered, EqFits, eq_output}
-use Rattle.log_adder2.specs.declared.EqCarries.{EqCarries}
+use Rattle.log_adder2.specs.EqState.{CarriesOrdered, EqFits, eq_input, eq_output}
+use Rattle.log_adder2.specs.declared.Column.{Column}
+use Rattle.log_adder2.proofs.OrderingPass.{ordered_taken}
 use Rattle.log_adder2.specs.declared.EqInput.{EqInput}
-use Rattle.log_linear.specs.Added.{add_rule, rule_outcome}
 use Rattle.log_encoding.specs.EncodeLinearLog.{eq_rule}
 use Rattle.log_encoding.specs.Linear.{Weighted, gather, negated_constant}
 use Rattle.log_encoding.specs.LinearSize.{gather_counts, linear_reached, shape_of}
-use Rattle.log_linear.specs.declared.RuleCounts.{RuleCounts}
+use Rattle.log_linear.specs.declared.Bits.{Bits}
 use Rattle.log_encoding.proofs.LinearSize.{gather_counts_are, negated_bits_are}
 use Rattle.log_terms.specs.Gathered.{Gathered}
 use Rattle.log_weighted.proofs.Columns.{counts_are, eq_output_is}
@@ -35,20 +35,26 @@ use Rattle.log_mul.specs.Added.{MultiplierAdded}
 use Rattle.log_encoding.specs.EncodeMulLog.{encode_mul, mul_constant, offset_terms, product_with_offsets}
 use Rattle.log_encoding.specs.Multiply.{multiplier, product}
 use Rattle.log_encoding.specs.MulSize.{mul_reached, multiplier_reached, no_offsets, offset_shapes, offsets_reached}
-use Rattle.log_mul.specs.declared.Multiplied.{Multiplied}
 use Rattle.log_encoding.proofs.MulSize.{multiplier_size, offset_shapes_are}
 use Rattle.log_product.specs.Ready.{ColumnsReady, EqInputReady, multiply_then}
+
+-- Variables counted anew ----------------------------------------------------------------------------------------------
+
+-- what was written does not hang on how many variables there were
+pub from_vars : (s : ClauseSet) (n : ℕ) {t : ClauseSet} {v : ℕ} {cs : Clauses} → Wrote (record { lits = s.lits; ends = s.ends; base = s.base; vars = n; used = s.used }) v cs t
+    → Wrote s v cs t
+from_vars s n w =
+    record { same_lits = w.same_lits; same_ends = w.same_ends; same_base = w.same_base; vars_are = w.vars_are; stores_are = w.stores_are }
+
+pub rule_as : {s t : ClauseSet} {r q : EncodedRule} → AddedRule s r t → r ≡ q → AddedRule s q t
+rule_as w e = wrote_as w (ap (λ (x : EncodedRule). x.vars) e) (ap (λ (x : EncodedRule). x.clauses) e)
 
 -- The clauses ---------------------------------------------------------------------------------------------------------
 
 -- without columns nothing is sent at once
-pub without_columns : {d e d₁ e₁ d₂ e₂ : List ℕ} (mul : EncodedBits) (x y v : ℕ) (a : Counts) (r : Multiplied) (u : RuleCounts)
-    → MultiplierAdded d e mul a d₁ e₁ r → rule_outcome d₂ e₂ u ≡ add_rule (eq_rule (eq_adder [] x y v)) (after d₁ e₁ r.used)
-    → rule_outcome d₂ e₂ u ≡ add_rule (multiply_then mul (eq_adder [] x y v)) (after d e a)
-without_columns {d} {e} mul x y v a r u m h =
-    let last : Clauses = (eq_adder [] x y v).returned in
-    let s = ap (add_clauses 0 last) m.stores ∙ sym (add_append 0 mul.clauses last (after d e a)) in
-    h ∙ (λ i. record { stores = s i; vars = v })
+pub without_columns : {s t u : ClauseSet} (mul : EncodedBits) (x y v : ℕ) {r : Bits} → MultiplierAdded s mul t r → v ≡ mul.vars
+    → AddedRule t (eq_rule (eq_adder [] x y t.vars)) u → AddedRule s (multiply_then mul (eq_adder [] x y v)) u
+without_columns mul x y v m e h = wrote_as (wrote_then m.wrote h) (m.wrote.vars_are ∙ sym e) refl
 
 -- with columns, the two passes
 some_columns : (grid : Grid) (x y v : ℕ) → 1 ≤ length grid
@@ -57,33 +63,36 @@ some_columns : (grid : Grid) (x y v : ℕ) → 1 ≤ length grid
 some_columns [] x y v h = absurd (omega arith)
 some_columns (c ∷ grid) x y v h = refl
 
-module _ {grid : Grid} {cols : List (List Lit)} {counts : List ℕ} (h : Gathered grid cols counts) (g : EqInput) (ready : ColumnsReady grid g) where
+module _ {grid : Grid} {cols : Columns} (h : Gathered grid cols) (g : EqInput) (ready : ColumnsReady grid g) where
   -- what the two passes ask
-  pub columns_fit : too_tall (eq_reached (take g.width counts) g.x g.y 0) ≡ false
+  pub columns_fit : too_tall (eq_reached (take g.width cols.counts) g.x g.y 0) ≡ false
   columns_fit = ap (λ (hs : List ℕ). too_tall (eq_reached hs g.x g.y 0)) (counts_are h g.width ready.width (omega (arith, ready.few))) ∙ ready.heights
 
-  pub columns_ready : EqFits cols counts g
+  pub columns_ready : EqFits cols g
   columns_ready =
       record { some = ready.some; width = omega (arith, ready.few); x = ready.x_low; y = ready.y_low; vars = ready.vars; own = h.arrays.low; wide = h.arrays.wide }
 
-  encoded : record { sent = (eq_output cols counts g).sent; returned = returned_set (eq_output cols counts g).returned; vars = (eq_output cols counts g).vars } ≡ eq_adder grid g.x g.y g.vars
+  -- the first pass over the counts as a slice
+  pub first_pass : (counts : List ℕ) → counts ≡ take g.width cols.counts → (s : ClauseSet) → s.vars ≡ g.vars → {t : ClauseSet} {c : Column}
+      → CarriesOrdered s counts (eq_input (length counts) g.x g.y s.vars) t c → CarriesOrdered s cols.counts g t c
+  first_pass counts e s v {t} {c} o =
+      let n : g.width ≤ length cols.counts = omega (arith, ready.few, h.arrays.places) in
+      let all : CarriesOrdered s (take g.width cols.counts) (eq_input (length (take g.width cols.counts)) g.x g.y s.vars) t c =
+      rw (← e) o in
+      subst (λ m. CarriesOrdered s cols.counts (eq_input g.width g.x g.y m) t c) v (ordered_taken cols.counts g.width g.x g.y ready.some n all)
+
+  encoded : record { sent = (eq_output cols g).sent; returned = returned_set (eq_output cols g).returned; vars = (eq_output cols g).vars } ≡ eq_adder grid g.x g.y g.vars
   encoded =
       ap {B = EncodedEq} (λ (o : Adder2Output). record { sent = o.sent; returned = returned_set o.returned; vars = o.vars })
       (eq_output_is h g ready.width ready.some ready.few columns_fit)
       ∙ some_columns grid g.x g.y g.vars (omega (arith, ready.some, ready.width))
 
-  pub with_columns : {d e d₁ e₁ d₂ e₂ d₃ e₃ : List ℕ} (mul : EncodedBits) (a : Counts) (s : EqCarries) (r : Multiplied) (u : Counts)
-      → CarriesOrdered d e counts g a d₁ e₁ s → MultiplierAdded d₁ e₁ mul s.used d₂ e₂ r
-      → after d₃ e₃ u ≡ add_clauses 0 (returned_set (eq_output cols counts g).returned) (after d₂ e₂ r.used)
-      → rule_outcome d₃ e₃ (record { vars = s.vars; used = u }) ≡ add_rule (multiply_then mul (eq_adder grid g.x g.y g.vars)) (after d e a)
-  with_columns {d} {e} mul a s r u o m w =
-      let S : Stores = after d e a in
-      let first : Clauses = (eq_output cols counts g).sent in
-      let last : Clauses = returned_set (eq_output cols counts g).returned in
-      let stores = w ∙ ap (add_clauses 0 last) (m.stores ∙ ap (add_clauses 0 mul.clauses) (o.stores cols h.arrays.wide))
-      ∙ sym (add_append 0 first (mul.clauses ++ last) S ∙ add_append 0 mul.clauses last (add_clauses 0 first S)) in
-      (λ i. record { stores = stores i; vars = o.vars cols h.arrays.wide i })
-      ∙ ap (λ (out : EncodedEq). add_rule (multiply_then mul out) S) encoded
+  -- the three parts, one after the other
+  pub with_columns : (mul : EncodedBits) {s t u w : ClauseSet} → Wrote s (eq_output cols g).vars (eq_output cols g).sent t → Wrote t mul.vars mul.clauses u
+      → {v : ℕ} → v ≡ t.vars → Wrote u v (returned_set (eq_output cols g).returned) w → AddedRule s (multiply_then mul (eq_adder grid g.x g.y g.vars)) w
+  with_columns mul o m e r =
+      wrote_as (wrote_then o (wrote_then m r)) (e ∙ o.vars_are ∙ ap (λ (x : EncodedEq). x.vars) encoded)
+      (ap (λ (x : EncodedEq). x.sent ++ (mul.clauses ++ x.returned)) encoded)
 
 -- The definition --------------------------------------------------------------------------------------------------------
 

@@ -10,7 +10,8 @@ use mir.Syntax.{w32}
 use mir.Val.{SFits, of_z, to_z}
 use mir.ValLaws.{to_z-of_z}
 use lib.IntN.{◌*ℤ◌, ◌-ℤ◌, negsuc, neg_ℤ, pos, ℤ}
-use lib.ListN.{get_or, replicate, set}
+use lib.ListN.{get_or}
+use mathlib.Core.List.{[], ◌∷◌}
 use Rattle.arithmetic.specs.Bits.{shl}
 use Rattle.arithmetic.specs.Integers.{down, up}
 use Rattle.arithmetic.proofs.Integers.{apart_read, mul_read, neg_reads}
@@ -50,12 +51,10 @@ offsets_small x y a b c d = go x y a b c d (mul_read x y) (apart_read (x *ℤ y)
 pub constant_small : (z m : ℤ) → up z ≤ 16769025 → down z ≤ 16769025 → up m ≤ 4095 → down m ≤ 4095 → (up (z -ℤ m) ≤ 16773120) × (down (z -ℤ m) ≤ 16773120)
 constant_small z m a b c d = let s = added_small z (neg_ℤ m) in let n = neg_reads m in (omega arith, omega arith)
 
--- four terms in an array of seven
-pub four_fit : (p q r s : WeightedLits) → TermFits 12 p → TermFits 12 q → TermFits 12 r → TermFits 12 s
-    → TermsFit 12 (set (set (set (replicate 7 p) 1 q) 2 r) 3 s) 4
-four_fit p q r s a b c d = record { few = omega arith; steps_fit = omega arith; fits = fits }
+pub four_fit : {p q r s : WeightedLits} → TermFits 12 p → TermFits 12 q → TermFits 12 r → TermFits 12 s → TermsFit 12 (p ∷ q ∷ r ∷ s ∷ [])
+four_fit {p} {q} {r} {s} a b c d = record { few = omega arith; steps_fit = omega arith; fits = fits }
   where
-    fits : (i : ℕ) → i < 4 → TermFits 12 (get_or (set (set (set (replicate 7 p) 1 q) 2 r) 3 s) i no_term)
+    fits : (i : ℕ) → i < 4 → TermFits 12 (get_or (p ∷ q ∷ r ∷ s ∷ []) i no_term)
     fits zero h = a
     fits (suc zero) h = b
     fits (suc (suc zero)) h = c

@@ -1,7 +1,9 @@
 -- What the code of products over the settings' records asks and leaves.
-use Rattle.std.specs.Prelude.{◌+◌, ◌-◌, ◌<◌, ◌≤◌, ℕ, length, false, List, [], ◌++◌, ◌≡◌}
+use Rattle.std.specs.Prelude.{◌+◌, ◌-◌, ◌<◌, ◌^◌, ◌≤◌, ℕ, length, false, List, [], ◌++◌, ◌≡◌}
 use Rattle.sat.specs.Encoded.{EncodedBits, EncodedRule}
-use Rattle.clause_set.specs.declared.Counts.{Counts}
+use Rattle.sat.specs.declared.Lit.{Lit}
+use Rattle.clause_set.specs.declared.ClauseSet.{ClauseSet}
+use Rattle.clause_set.specs.Stores.{Below}
 use Rattle.log_var.specs.declared.LogEncoding.{LogEncoding as Encoding}
 use Rattle.log_encoding.specs.Adder2.{EncodedEq}
 use Rattle.log_encoding.specs.Gather.{Grid}
@@ -34,13 +36,12 @@ pub record EqInputReady (ws : List Weighted) (a b v : ℕ) (g : EqInput) : Type 
   pub vars : g.vars ≡ v
 
 -- two numbers to multiply, counts with room, and no column above 12
-pub record FactorsReady (x y : Bits) (v : ℕ) (a : Counts) : Type 0 where
-  pub x_len : x.len ≤ 12
-  pub y_len : y.len ≤ 12
-  pub vars : v ≤ 1000000
-  pub lits : a.lits ≤ 16777216
-  pub clauses : a.clauses ≤ 16777216
-  pub heights : too_tall (multiplier_reached x.len y.len 0) ≡ false
+pub record FactorsReady (x y : List Lit) (s : ClauseSet) : Type 0 where
+  pub x_len : length x ≤ 12
+  pub y_len : length y ≤ 12
+  pub vars : s.vars ≤ 1000000
+  pub below : Below (2 ^ 24 + 1) s
+  pub heights : too_tall (multiplier_reached (length x) (length y) 0) ≡ false
 
 -- Eq's columns, of which there is at least one: none that is reached is above 12
 pub record ColumnsReady (grid : Grid) (g : EqInput) : Type 0 where
@@ -57,13 +58,12 @@ abbrev pub multiply_then : EncodedBits → EncodedEq → EncodedRule
 multiply_then mul out = record { clauses = out.sent ++ (mul.clauses ++ out.returned); vars = out.vars }
 
 -- three records within bounds, and counts with room
-pub record ProductReady (x y m : Encoding) (v : ℕ) (a : Counts) : Type 0 where
+pub record ProductReady (x y m : Encoding) (s : ClauseSet) : Type 0 where
   pub x_ready : SettingReady x
   pub y_ready : SettingReady y
   pub m_ready : SettingReady m
-  pub vars : v ≤ 65535
-  pub lits : a.lits ≤ 16777216
-  pub clauses : a.clauses ≤ 16777216
+  pub vars : s.vars ≤ 65535
+  pub below : Below (2 ^ 24 + 1) s
 
 -- three of 32 settings, all within bounds
 pub record ProductsReady (es : List Encoding) (x y m : ℕ) : Type 0 where

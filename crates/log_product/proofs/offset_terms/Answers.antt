@@ -13,12 +13,12 @@ weighted_bits-product-requires-clause-coef_bound c = let h = c.requires.len_boun
 pub weighted_bits-by_x-requires-clause-coef_bound : goal.weighted_bits-by_x-requires-clause-coef_bound
 weighted_bits-by_x-requires-clause-coef_bound c =
     let b = c.setting_bits.ensures in
-    let h = c.requires.setting_ready.1 in rw (offset_is c.args.y h) (h.offset_up, h.offset_down, offset_reach c.setting_bits.result.len c.args.y.offset b.len h.offset_up h.offset_down)
+    let h = c.requires.setting_ready.1 in rw (offset_is c.args.y.now h) (h.offset_up, h.offset_down, offset_reach c.setting_bits.result.len c.args.y.now.offset b.len h.offset_up h.offset_down)
 
 pub weighted_bits-by_y-requires-clause-coef_bound : goal.weighted_bits-by_y-requires-clause-coef_bound
 weighted_bits-by_y-requires-clause-coef_bound c =
     let b = c.setting_bits-2.ensures in
-    let h = c.requires.setting_ready.0 in rw (offset_is c.args.x h) (h.offset_up, h.offset_down, offset_reach c.setting_bits-2.result.len c.args.x.offset b.len h.offset_up h.offset_down)
+    let h = c.requires.setting_ready.0 in rw (offset_is c.args.x.now h) (h.offset_up, h.offset_down, offset_reach c.setting_bits-2.result.len c.args.x.now.offset b.len h.offset_up h.offset_down)
 
 pub weighted_bits-by_m-requires-clause-coef_bound : goal.weighted_bits-by_m-requires-clause-coef_bound
 weighted_bits-by_m-requires-clause-coef_bound c =
@@ -31,12 +31,12 @@ returns c =
     let q = c.weighted_bits-by_x.ensures in
     let r = c.weighted_bits-by_y.ensures in
     let t = c.weighted_bits-by_m.ensures in
-    let x = offset_is c.args.x c.requires.setting_ready.0 in
-    let y = offset_is c.args.y c.requires.setting_ready.1 in
+    let x = offset_is c.args.x.now c.requires.setting_ready.0 in
+    let y = offset_is c.args.y.now c.requires.setting_ready.1 in
     let bx = c.setting_bits.ensures.bits in
     let by = c.setting_bits-2.ensures.bits in
     let bm = c.setting_bits-3.ensures.bits in
     let q₁ = q.0 ∙ (λ i. weighted (y i) (bx i)) in
     let r₁ = r.0 ∙ (λ i. weighted (x i) (by i)) in
     let t₁ = t.0 ∙ (λ i. weighted (negsuc 0) (bm i)) in
-    ((λ i. p.0 i ∷ q₁ i ∷ r₁ i ∷ t₁ i ∷ []), four_fit c.weighted_bits-product.result c.weighted_bits-by_x.result c.weighted_bits-by_y.result c.weighted_bits-by_m.result p.1 q.1 r.1 t.1)
+    ((λ i. p.0 i ∷ q₁ i ∷ r₁ i ∷ t₁ i ∷ []), four_fit p.1 q.1 r.1 t.1)

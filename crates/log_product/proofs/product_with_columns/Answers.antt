@@ -1,77 +1,53 @@
 -- `log_product::product_with_columns` meets its contract.
--- the arrays of literals have 32 places
-use mathlib.Core.List.{[]}
-use mathlib.Core.Path.{◌≡◌, ◌∙◌}
-use Prim.Native.Nat.{◌^◌, ◌<◌}
-use lib.Dec.{lit<}
-use lib.ListN.{length}
+use mathlib.Core.List.{[], map}
+use mathlib.Core.Path.{refl}
 use native.Mathlib.Omega.{arith}
-use Rattle.sat.specs.LitArray.{lit}
-use Rattle.sat.specs.declared.Lit.{Lit}
-use Rattle.log_encoding.specs.AdderSize.{too_tall}
-use Rattle.sat.proofs.Every.{every_replicate}
-use Rattle.log_linear.specs.Added.{bits_of}
-use Rattle.log_linear.proofs.Literals.{lits_long}
+use Rattle.sat.specs.LitArray.{num}
+use Rattle.log_adder2.specs.EqState.{CarriesOrdered}
 use Rattle.log_encoding.specs.Multiply.{multiplier}
-use Rattle.log_encoding.specs.MulSize.{multiplier_reached}
-use Rattle.log_product.proofs.Most.{MultiplierMost, multiplied_most, multiplier_most}
-use Rattle.log_product.proofs.OffsetSum.{columns_fit, with_columns}
+use Rattle.log_product.proofs.Most.{factors_most, factors_ready, multiplied_most}
+use Rattle.log_product.proofs.OffsetSum.{columns_fit, first_pass, from_vars, with_columns}
 use Rattle.log_product.proofs.product_with_columns.Goals as goal
-use Rattle.log_product.proofs.product_with_columns.Goals.{Start}
+use Rattle.log_product.proofs.product_with_columns.Goals.{After-order_carries-carry}
 
-x-long : (s : Start) → length (bits_of s.args.x) ≡ s.args.x.len
-x-long s =
-    let e : length s.args.x.lits ≡ 32 = s.well_formed.1.1.1.0.1.1.0.1.0.1 in
-    lits_long s.args.x.lits s.args.x.len (omega (arith, s.requires.terms_fit.1.x_len))
+-- the first pass
+first : (c : After-order_carries-carry)
+    → let s = c.args.set.now in
+    CarriesOrdered (record { lits = s.lits; ends = s.ends; base = s.base; vars = c.args.g.vars; used = s.used }) c.gather-cols.result.counts c.args.g c.order_carries-carry.new.set c.order_carries-carry.result
+first c = first_pass c.gather-cols.ensures c.args.g c.requires.columns_ready _ c.first_counts.ensures.0 _ refl c.order_carries-carry.ensures
 
-y-long : (s : Start) → length (bits_of s.args.y) ≡ s.args.y.len
-y-long s =
-    let e : length s.args.y.lits ≡ 32 = s.well_formed.1.1.1.1.0.1.1.0.1.0.1 in
-    lits_long s.args.y.lits s.args.y.len (omega (arith, s.requires.terms_fit.1.y_len))
+pub order_carries-carry-requires-clause-y_value : goal.order_carries-carry-requires-clause-y_value
+order_carries-carry-requires-clause-y_value c =
+    rw c.first_counts.ensures.0 (columns_fit c.gather-cols.ensures c.args.g c.requires.columns_ready)
 
--- how much the multiplier adds at most
-most : (s : Start) → MultiplierMost (multiplier (bits_of s.args.x) (bits_of s.args.y) [] s.args.vars)
-most s =
-    multiplier_most (bits_of s.args.x) (bits_of s.args.y) s.args.vars (omega (arith, x-long s, s.requires.terms_fit.1.x_len)) (omega (arith, y-long s, s.requires.terms_fit.1.y_len))
-    ((λ i. too_tall (multiplier_reached (x-long s i) (y-long s i) 0)) ∙ s.requires.terms_fit.1.heights)
+pub log_encoding_multiplier-requires : goal.log_encoding_multiplier-requires
+log_encoding_multiplier-requires c =
+    let f = c.requires.terms_fit.1 in
+    let o = first (goal.at.log_encoding_multiplier-requires c).After-order_carries-carry in
+    let w = o.wrote c.gather-cols.result.lits c.gather-cols.ensures.arrays.wide in
+    factors_ready f f.vars (omega (arith, f.below, o.lits, w.same_base)) (omega (arith, f.below, o.clauses))
 
-pub order_carries-s-requires-clause-y_value : goal.order_carries-s-requires-clause-y_value
-order_carries-s-requires-clause-y_value c =
-    let h = c.requires.terms_fit.1 in
-    let g = c.requires.columns_ready in columns_fit c.gather-cols.ensures c.args.g g
+pub push_returned_set-requires-clause-y_value : goal.push_returned_set-requires-clause-y_value
+push_returned_set-requires-clause-y_value c = columns_fit c.gather-cols.ensures c.args.g c.requires.columns_ready
 
-pub log_encoding_multiplier-mul-requires : goal.log_encoding_multiplier-mul-requires
-log_encoding_multiplier-mul-requires c =
-    let h = c.requires.terms_fit.1 in
-    let o = c.order_carries-s.ensures in
-    record {
-      x_len = h.x_len;
-      y_len = h.y_len;
-      m_len = omega arith;
-      low = every_replicate (lit 0) (λ (x : Lit). x.0 < 2 ^ 31) 32 (lit< tt);
-      vars = h.vars;
-      lits = omega (arith, h.lits, o.lits);
-      clauses = omega (arith, h.clauses, o.clauses);
-      heights = h.heights;
-    }
+pub push_returned_set-requires-clause-carry_value : goal.push_returned_set-requires-clause-carry_value
+push_returned_set-requires-clause-carry_value c = (first (goal.at.push_returned_set-requires-clause-carry_value c).After-order_carries-carry).carry
 
-pub push_returned_set-used-requires-clause-y_value : goal.push_returned_set-used-requires-clause-y_value
-push_returned_set-used-requires-clause-y_value c =
-    let h = c.requires.terms_fit.1 in
-    let o = c.order_carries-s.ensures in
-    let g = c.gather-cols.ensures in
-    let m = multiplied_most (most (goal.at.push_returned_set-used-requires-clause-y_value c).Start) c.log_encoding_multiplier-mul.ensures in columns_fit g c.args.g c.requires.columns_ready
-
-pub push_returned_set-used-requires-clause-lits_bound : goal.push_returned_set-used-requires-clause-lits_bound
-push_returned_set-used-requires-clause-lits_bound c =
-    let h = c.requires.terms_fit.1 in
-    let o = c.order_carries-s.ensures in
-    let g = c.gather-cols.ensures in
-    let m = multiplied_most (most (goal.at.push_returned_set-used-requires-clause-lits_bound c).Start) c.log_encoding_multiplier-mul.ensures in (omega (arith, m.0, o.lits, h.lits), omega (arith, m.1, o.clauses, h.clauses))
+pub push_returned_set-requires-clause-lits_bound : goal.push_returned_set-requires-clause-lits_bound
+push_returned_set-requires-clause-lits_bound c =
+    let f = c.requires.terms_fit.1 in
+    let o = first (goal.at.push_returned_set-requires-clause-lits_bound c).After-order_carries-carry in
+    let w = o.wrote c.gather-cols.result.lits c.gather-cols.ensures.arrays.wide in
+    let u = c.log_encoding_multiplier.ensures in
+    let m = multiplied_most (factors_most f c.args.set.now.vars) u in
+    (omega (arith, m.0, o.lits, f.below, w.same_base, u.wrote.same_base), omega (arith, m.1, o.clauses, f.below))
 
 pub returns : goal.returns
 returns c =
-    let m = c.log_encoding_multiplier-mul in
-    let o = c.order_carries-s in
-    with_columns c.gather-cols.ensures c.args.g c.requires.columns_ready (multiplier (bits_of c.args.x) (bits_of c.args.y) [] c.args.vars) c.args.at o.result m.result c.push_returned_set-used.result
-    o.ensures m.ensures c.push_returned_set-used.ensures
+    let a = c.args in
+    let s = a.set.now in
+    let t = c.order_carries-carry.new.set in
+    let u = c.log_encoding_multiplier in
+    let w = (first (goal.at.returns c).After-order_carries-carry).wrote c.gather-cols.result.lits c.gather-cols.ensures.arrays.wide in
+    with_columns c.gather-cols.ensures a.g c.requires.columns_ready (multiplier (map num a.x.now) (map num a.y.now) [] s.vars)
+    (from_vars s a.g.vars w) (from_vars t s.vars u.ensures.wrote) refl (from_vars u.new.set t.vars c.push_returned_set.ensures)
