@@ -6,7 +6,7 @@ use mir.Syntax.{w32}
 use mir.Val.{of_z, to_z}
 use mir.ValLaws.{to_z-of_z}
 use Rattle.arithmetic.specs.Integers.{down, up}
-use Rattle.norm_csp.specs.NormOp.{op_of}
+use Rattle.norm_csp.specs.Operations.{normalized}
 use Rattle.norm_csp.specs.Rules.{terms_of}
 use Rattle.log_encoding.specs.EncodeLinearLog.{offset_constant}
 use Rattle.log_encoding.specs.LinearSize.{linear_reached, linear_size}
@@ -29,5 +29,5 @@ pub returns : goal.returns
 returns c =
     let t = c.term_shapes-ts.ensures.0 in
     let k = sum_is (goal.at.returns c).After-offset_constant-k in
-    measured_as 2 c.terms_size.result (omega arith) (λ i. linear_reached (op_of c.args.op) (t i) (up (k i)) (down (k i))) (λ i. linear_size (op_of c.args.op) (t i) (k i))
+    measured_as 2 c.terms_size.result (omega arith) (λ i. linear_reached (normalized c.args.op) (t i) (up (k i)) (down (k i))) (λ i. linear_size (normalized c.args.op) (t i) (k i))
     c.terms_size.ensures
