@@ -6,6 +6,7 @@ use encoder_env::{EncoderEnv, well_formed};
 use encoder_linear::argument_checks;
 use log_product::mul_height;
 use log_turned::turned_height;
+use norm_csp::CmpOp;
 
 // Of a sum: 0 where it is refused before 13 is tested.
 pub fn sum_height(
@@ -19,7 +20,7 @@ pub fn sum_height(
     ensures { result ≡ sum_height env lits ends op constant terms.now }
 {
     match argument_checks(env, lits, ends, op, constant, terms) {
-        Ok(()) => turned_height(&env.encodings, op, constant, terms),
+        Ok(()) => turned_height(&env.encodings, CmpOp::from(op), constant, terms),
         Err(_) => 0,
     }
 }
