@@ -31,5 +31,5 @@ pub fn product_height(env: EncoderEnv, lits: usize, ends: usize, x: u32, y: u32,
     if !well_formed(env, lits, ends) || x >= env.count || y >= env.count || m >= env.count {
         return 0;
     }
-    mul_height(env.encodings, x, y, m)
+    mul_height(&env.encodings, x, y, m)
 }

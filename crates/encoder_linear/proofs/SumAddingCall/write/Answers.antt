@@ -4,13 +4,12 @@ use native.Mathlib.Omega.{arith}
 use mir.Syntax.{w32}
 use mir.Val.{of_z, to_z}
 use mir.ValLaws.{to_z-of_z}
-use Rattle.clause_set.specs.declared.Counts.{Counts}
 use Rattle.norm_csp.specs.Rules.{cmp_op_of, terms_of}
 use Rattle.log_encoding.specs.Turned.{encode_turned}
 use Rattle.encoder_env.specs.WellFormed.{int_map}
 use Rattle.log_sum.proofs.Offsets.{small_fits}
 use Rattle.encoder_answer.proofs.Answering.{rule_wrote}
-use Rattle.encoder_answer.proofs.Ready.{counts_ready}
+use Rattle.encoder_answer.proofs.Ready.{set_ready}
 use Rattle.encoder_linear.proofs.Added.{SumKnown, sum_known}
 use Rattle.encoder_linear.proofs.Ready.{terms_ready}
 use Rattle.encoder_linear.proofs.SumAddingCall.write.Goals as goal
@@ -28,17 +27,11 @@ pub encode_turned-requires : goal.encode_turned-requires
 encode_turned-requires c =
     let s = (goal.at.encode_turned-requires c).Start in
     let k = known s in
-    let r = counts_ready _ _ _ k.arguments.holds in
-    let j = c.requires.job in
+    let r = set_ready _ _ _ k.arguments.holds c.requires.job in
     rw (same s)
     (record {
       terms_ready = terms_ready _ _ _ _ _ _ k.arguments;
-      constant_bound = (
-        omega (arith, k.arguments.constant_small),
-        omega (arith, k.arguments.constant_small),
-        omega (arith, j.vars, r.0),
-        (omega (arith, j.base, ap (λ (a : Counts). a.lits) j.used, r.1), omega (arith, ap (λ (a : Counts). a.clauses) j.used, r.2)),
-      );
+      constant_bound = (omega (arith, k.arguments.constant_small), omega (arith, k.arguments.constant_small), r.0, r.1);
       terms_value = k.heights;
     })
 
