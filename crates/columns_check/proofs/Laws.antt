@@ -8,17 +8,17 @@ use native.Mathlib.Omega.{arith}
 use lib.Dec.{lit<}
 use lib.ListN.{length, replicate, set, take, length-map, length-set, length-take}
 use lib.Seq.{take-suc-set}
-use Rattle.sat.specs.declared.Lit.{Lit}
 use Rattle.mixed.specs.declared.LinearInfo.{LinearInfo}
 use Rattle.log_encoding.specs.Enumerate.{bounded}
 use Rattle.log_encoding.specs.Terms.{Term}
 use Rattle.mixed.proofs.Infos.{last_append, length_thresholds}
-use Rattle.mixed.specs.Infos.{AllSmall, InTable, Small, info_term, infos_left, last_loss, loss, no_info, thresholds_before}
+use Rattle.mixed.specs.Infos.{AllSmall, InTable, Small, info_term, last_loss, loss, no_info, thresholds_before}
 use Rattle.log_encoding.proofs.Bound.{bounded_count, bounded_total, sizes}
 use Rattle.clause_set.specs.declared.Counts.{Counts}
 use Rattle.clause_set.specs.Stores.{Fits}
 use Rattle.sat.proofs.Every.{every_replicate, every_set}
 use Rattle.log_encoding.specs.Gather.{Grid}
+use Rattle.log_adder.specs.declared.Columns.{Columns}
 use Rattle.log_gather.specs.Arrays.{Arrays, Few, Pushed}
 use Rattle.columns_check.specs.declared.Terms.{Terms}
 use Rattle.columns_check.specs.Input.{Gathered, TermsRead}
@@ -84,13 +84,13 @@ before_sizes (t ∷ []) = omega arith
 before_sizes (t ∷ u ∷ us) = let e = before_sizes (u ∷ us) in omega (arith, length_thresholds t t.count)
 
 -- they fit into a table
-pub terms_in_table : (r : Terms) → TermsRead r → r.last ≤ 24 → InTable (infos_left r.terms r.len 0)
+pub terms_in_table : (r : Terms) → TermsRead r → r.last ≤ 24 → InTable (take r.len r.terms)
 terms_in_table r t h =
     record { few = omega (arith, before_sizes (take r.len r.terms), t.few); last = omega (arith, t.last); all = t.all }
 
 -- the clauses of an inequality over them fit
 pub terms_fit : (r : Terms) (a b : ℕ) (at : Counts) → (at.clauses ≡ 0) × (at.lits ≡ 0) → TermsRead r
-    → Fits 0 at (bounded (map info_term (infos_left r.terms r.len 0)) a b)
+    → Fits 0 at (bounded (map info_term (take r.len r.terms)) a b)
 terms_fit r a b at z t =
     let ts : List Term = map info_term (take r.len r.terms) in
     let n : length ts ≤ 15 = rw (length-map (take r.len r.terms) info_term, length-take r.len r.terms) (omega (arith, t.len)) in
@@ -100,14 +100,11 @@ terms_fit r a b at z t =
 
 -- Columns -------------------------------------------------------------------------------------------------------------
 
-pub few_more : {a b : ℕ} (counts : List ℕ) → a ≤ b → Few a counts → Few b counts
-few_more counts h f i = let k = f i in omega arith
+few_more : {a b : ℕ} (cols : Columns) → a ≤ b → Few a cols → Few b cols
+few_more cols h f i = let k = f i in omega arith
 
-pub gathered_none : {cols : List (List Lit)} {counts : List ℕ} (at : ℕ) → Arrays cols (replicate 32 0) → Few 0 (replicate 32 0)
-    → counts ≡ replicate 32 0 → Gathered (384 * at) cols counts
-gathered_none at a f e = rw e (record { arrays = a; few = few_more (replicate 32 0) (omega arith) f })
+pub gathered_none : {cols : Columns} (at : ℕ) → Arrays cols × Few 0 cols → Gathered (384 * at) cols
+gathered_none {cols} at a = record { arrays = a.0; few = few_more cols (omega arith) a.1 }
 
-pub gathered_more : {cols cols₁ : List (List Lit)} {counts counts₁ : List ℕ} {f : Grid → Grid} {k : ℕ} → k ≤ 384 → (at end : ℕ) → at < end
-    → Gathered (384 * at) cols counts → Pushed k cols counts f cols₁ counts₁ → Gathered (384 * end) cols₁ counts₁
-gathered_more {counts₁ = counts₁} l at end h g p =
-    record { arrays = p.arrays; few = few_more counts₁ (omega arith) (p.few (384 * at) g.few) }
+pub gathered_more : {cols next : Columns} {f : Grid → Grid} {k : ℕ} → k ≤ 384 → (at end : ℕ) → at < end → Gathered (384 * at) cols → Pushed k cols f next → Gathered (384 * end) next
+gathered_more {next = next} l at end h g p = record { arrays = p.arrays; few = few_more next (omega arith) (p.few (384 * at) g.few) }

@@ -9,15 +9,15 @@
 
 mod print; // print.rt: what is printed
 
-ghost use Rattle.std.specs.Prelude.{◌≡◌, ◌+◌, ◌≤◌, ◌<◌, IfSome, length, replicate};
+ghost use Rattle.std.specs.Prelude.{◌≡◌, ◌+◌, ◌≤◌, ◌<◌, IfSome, length};
 ghost use Rattle.log_adder.specs.ColumnInfo.{AllLow};
 ghost use Rattle.mixed.specs.Infos.{Small};
 ghost use Rattle.columns_check.specs.Input.{Gathered, RowRead, TermsRead};
 
 use clause_set::{ClauseSet, Counts};
 use lines::{Line, Word};
-use log_adder::{AdderInput, AdderState};
-use log_adder2::EqInput;
+use log_adder::Columns;
+use log_linear::Bits;
 use mixed::LinearInfo;
 use print::{show_clauses, show_number};
 use sat::Lit;
@@ -84,13 +84,7 @@ fn read_terms(nums: &[i64]) -> Option<Terms>
     if rest % 4 != 0 || len > 15 {
         return None;
     }
-    let none = LinearInfo {
-        weight: 0,
-        falling: false,
-        first: Lit(0),
-        count: 0,
-    };
-    let mut terms = [none; 15];
+    let mut terms = [LinearInfo::default(); 15];
     let mut left: u32 = 19;
     let mut last: u64 = 0;
     for n in 0..len {
@@ -118,7 +112,7 @@ fn run_ge<R: Print>(rt: &R, nums: &[i64], lits: &mut [u32], ends: &mut [u32]) ->
         vars: 0,
         used: nothing(),
     };
-    mixed::encode_linear_ge_mixed_from_info(&mut set, t.terms, t.len, above, below);
+    mixed::encode_linear_ge_mixed_from_info(&mut set, &t.terms[..t.len], above, below);
     rt.write_all(b"ge")?;
     show_clauses(rt, &set)
 }
@@ -128,22 +122,21 @@ fn run_ge<R: Print>(rt: &R, nums: &[i64], lits: &mut [u32], ends: &mut [u32]) ->
 // Literals and a coefficient by which they are gathered, and where the next begin.
 #[derive(Clone, Copy)]
 struct Row {
-    lits: [Lit; 32],
-    len: usize,
+    bits: Bits,
     coef: u32,
     end: usize,
 }
 
 // n literals from `from` on.
-fn lits_from(nums: &[i64], from: usize, n: usize) -> [Lit; 32]
+fn lits_from(nums: &[i64], from: usize, n: usize) -> Bits
     requires { (n ≤ 26) × (from + n ≤ length nums.now) }
-    ensures { AllLow result }
+    ensures { (result.len ≡ n) × AllLow result.lits }
 {
-    let mut out = [Lit(0); 32];
+    let mut lits = [Lit(0); 32];
     for i in 0..n {
-        out[i] = Lit(number(nums, from + i));
+        lits[i] = Lit(number(nums, from + i));
     }
-    out
+    Bits { lits, len: n }
 }
 
 // The row at `at`, if it is within bounds.
@@ -157,18 +150,16 @@ fn read_row(nums: &[i64], at: usize) -> Option<Row>
         return None;
     }
     Some(Row {
-        lits: lits_from(nums, at + 2, len),
-        len,
+        bits: lits_from(nums, at + 2, len),
         coef,
         end: at + 2 + len,
     })
 }
 
 // The columns of the rows that are left of a line, if these are within bounds.
-fn gather(nums: &[i64], from: usize, counts: &mut [u32; 32]) -> Option<[[Lit; 12]; 32]>
-    requires nums_len_bound { length nums.now ≤ 511 }
-    requires counts_value { counts.old ≡ replicate 32 0 }
-    ensures { IfSome result (λ cols. Gathered 200000 cols counts.new) }
+fn gather(nums: &[i64], from: usize) -> Option<Columns>
+    requires { length nums.now ≤ 511 }
+    ensures { IfSome result (Gathered 200000) }
 {
     if from > nums.len() {
         return None;
@@ -177,18 +168,17 @@ fn gather(nums: &[i64], from: usize, counts: &mut [u32; 32]) -> Option<[[Lit; 12
     let mut at = from;
     while at < nums.len() {
         let r = read_row(nums, at)?;
-        let next = log_gather::push_scaled(cols, counts, r.lits, r.len, r.coef, 0, 12);
-        cols = next;
+        log_gather::push_scaled(&mut cols, r.bits.as_slice(), r.coef, 0, 12);
         at = r.end;
     }
     Some(cols)
 }
 
 // The literals of the sum's bits, behind the word and the variable count.
-fn show_bits<R: Print>(rt: &R, s: AdderState) -> io::Result<()> {
+fn show_bits<R: Print>(rt: &R, vars: u32, bits: &[Lit]) -> io::Result<()> {
     rt.write_all(b"adder")?;
-    show_number(rt, s.vars)?;
-    for l in s.bits.iter().take(s.len) {
+    show_number(rt, vars)?;
+    for l in bits {
         show_number(rt, l.0)?;
     }
     rt.write_all(b" :")
@@ -198,33 +188,28 @@ fn run_adder<R: Print>(rt: &R, nums: &[i64], lits: &mut [u32], ends: &mut [u32])
     requires { length nums.now ≤ 511 }
 {
     let vars = number(nums, 0);
+    let constant = number(nums, 1);
     let width = number(nums, 2) as usize;
     let given = number(nums, 3) as usize;
     if vars > 1048576 || width > 26 || given > width || 4 + given > nums.len() {
         return rt.write_all(b"bad line\n");
     }
-    let mut counts = [0u32; 32];
-    let Some(cols) = gather(nums, 4 + given, &mut counts) else {
+    let Some(cols) = gather(nums, 4 + given) else {
         return rt.write_all(b"bad line\n");
     };
-    let p = AdderInput {
-        width,
-        constant: number(nums, 1),
-        given,
-    };
-    if 12 < log_adder::greatest_height(counts, p.width, p.constant) {
+    if 12 < log_adder::greatest_height(cols.first_counts(width), constant) {
         return rt.write_all(b"tall\n");
     }
     let first = lits_from(nums, 4, given);
-    let s = log_adder::log_encoding_adder(lits, ends, cols, counts, first, p, vars, nothing());
-    let set = ClauseSet {
+    let mut set = ClauseSet {
         lits,
         ends,
         base: 0,
-        vars: s.vars,
-        used: s.used,
+        vars,
+        used: nothing(),
     };
-    show_bits(rt, s)?;
+    let bits = log_adder::log_encoding_adder(&mut set, &cols, first.as_slice(), width, constant);
+    show_bits(rt, set.vars, bits.as_slice())?;
     show_clauses(rt, &set)
 }
 
@@ -243,24 +228,22 @@ fn run_eq_adder<R: Print>(
     if vars > 1048576 || width > 26 || width == 0 || (x > 0 && y > 0) {
         return rt.write_all(b"bad line\n");
     }
-    let mut counts = [0u32; 32];
-    let Some(cols) = gather(nums, 4, &mut counts) else {
+    let Some(cols) = gather(nums, 4) else {
         return rt.write_all(b"bad line\n");
     };
-    let g = EqInput { width, x, y, vars };
-    if 12 < log_adder2::eq_greatest_height(counts, width, x, y) {
+    if 12 < log_adder2::eq_greatest_height(cols.first_counts(width), x, y) {
         return rt.write_all(b"tall\n");
     }
-    let s = log_adder2::log_encoding_adder2(lits, ends, cols, counts, g, nothing());
-    let set = ClauseSet {
+    let mut set = ClauseSet {
         lits,
         ends,
         base: 0,
-        vars: s.vars,
-        used: s.used,
+        vars,
+        used: nothing(),
     };
+    log_adder2::log_encoding_adder2(&mut set, &cols, width, x, y);
     rt.write_all(b"eq_adder")?;
-    show_number(rt, s.vars)?;
+    show_number(rt, set.vars)?;
     show_clauses(rt, &set)
 }
 
@@ -279,16 +262,12 @@ fn run<R: Print>(
     if !all_small(nums) {
         return rt.write_all(b"bad line\n");
     }
-    if lines::is_word(word, b"ge") {
-        return run_ge(rt, nums, lits, ends);
+    match word.text() {
+        Some(b"ge") => run_ge(rt, nums, lits, ends),
+        Some(b"adder") => run_adder(rt, nums, lits, ends),
+        Some(b"eq_adder") => run_eq_adder(rt, nums, lits, ends),
+        _ => rt.write_all(b"bad line\n"),
     }
-    if lines::is_word(word, b"adder") {
-        return run_adder(rt, nums, lits, ends);
-    }
-    if lines::is_word(word, b"eq_adder") {
-        return run_eq_adder(rt, nums, lits, ends);
-    }
-    rt.write_all(b"bad line\n")
 }
 
 // A line that ends here.

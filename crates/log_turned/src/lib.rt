@@ -42,8 +42,7 @@ fn signed_terms(negate: bool, terms: &[i32]) -> [i32; 12]
 {
     let mut out = [0; 12];
     for (i, x) in terms.iter().enumerate() {
-        let z = *x;
-        out[i] = entry(negate, i, z);
+        out[i] = entry(negate, i, *x);
     }
     out
 }

@@ -1,7 +1,6 @@
 -- `columns_check::lits_from` meets its contract.
 use mathlib.Core.Path.{refl}
 use Prim.Native.Nat.{◌<◌, ◌^◌}
-use native.Mathlib.Omega.{arith}
 use lib.Dec.{lit<}
 use Rattle.sat.specs.declared.Lit.{Lit}
 use Rattle.sat.specs.LitArray.{lit}

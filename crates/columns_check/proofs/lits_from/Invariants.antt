@@ -4,4 +4,4 @@ use Rattle.std.proofs.Common.{length, ◌≡◌}
 use Rattle.columns_check.proofs.lits_from.Given as goal
 
 abbrev pub invariant-loop-i : goal.invariant-loop-i
-invariant-loop-i l = (length l.out ≡ 32) × AllLow l.out
+invariant-loop-i l = (length l.lits ≡ 32) × AllLow l.lits

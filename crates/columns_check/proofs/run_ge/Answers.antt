@@ -1,11 +1,12 @@
 -- `columns_check::run_ge` meets its contract.
 use native.Mathlib.Omega.{arith}
+use lib.ListN.{length-take}
 use Rattle.columns_check.proofs.Laws.{terms_fit, terms_in_table}
 use Rattle.columns_check.proofs.run_ge.Goals as goal
 
-pub encode_linear_ge_mixed_from_info-requires-clause-n_bound : goal.encode_linear_ge_mixed_from_info-requires-clause-n_bound
-encode_linear_ge_mixed_from_info-requires-clause-n_bound g c =
-    let t = c.in-Some in (t.ensures.len, terms_in_table t.t t.ensures (omega arith))
+pub encode_linear_ge_mixed_from_info-requires-clause-in_table : goal.encode_linear_ge_mixed_from_info-requires-clause-in_table
+encode_linear_ge_mixed_from_info-requires-clause-in_table g c =
+    let t = c.in-Some in (omega (arith, t.ensures.len, length-take t.t.len t.t.terms), terms_in_table t.t t.ensures (omega arith))
 
 pub encode_linear_ge_mixed_from_info-requires-clause-fits : goal.encode_linear_ge_mixed_from_info-requires-clause-fits
 encode_linear_ge_mixed_from_info-requires-clause-fits g c =
