@@ -3,13 +3,13 @@
 
 ghost use Rattle.std.specs.Prelude.{◌≡◌, false, length, ◌+◌, ◌≤◌, ◌<◌};
 ghost use Rattle.log_encoding.specs.AdderSize.{input_shapes, reached, reached_past, too_tall};
-ghost use Rattle.adder_size.specs.Counted.{ColumnCounted, Counted, CountedFrom, InBounds, nothing};
+ghost use Rattle.adder_size.specs.Counted.{ColumnCounted, Counted, CountedFrom, InBounds};
 
 use clause_set::Counts;
 use column_walk::{plus, walk_column};
 
 // The columns so far: bits of the sum, the carries' variables, those of the last carry, clauses and literal entries.
-#[derive(Clone, Copy)]
+#[derive(Clone, Copy, Default)]
 pub struct AdderSize {
     pub bits: u32,
     pub carries: u32,
@@ -18,21 +18,6 @@ pub struct AdderSize {
 }
 
 impl AdderSize {
-    // No column yet.
-    fn none() -> AdderSize
-        ensures { result ≡ nothing }
-    {
-        AdderSize {
-            bits: 0,
-            carries: 0,
-            carry: 0,
-            used: Counts {
-                clauses: 0,
-                lits: 0,
-            },
-        }
-    }
-
     // One column more.
     fn with_column(self, own: u32, bit: u32) -> AdderSize
         requires carry_bound { (own + self.carry ≤ 12) × (bit ≤ 1) × (self.bits < 32) }
@@ -67,7 +52,7 @@ pub fn adder_size(counts: &[u32], constant: u32) -> AdderSize
     requires constant_value { too_tall (reached (input_shapes (length counts.now) 0 counts.now constant) 0) ≡ false }
     ensures { Counted (reached (input_shapes (length counts.now) 0 counts.now constant) 0) result }
 {
-    let mut s = AdderSize::none();
+    let mut s = AdderSize::default();
     let mut k = constant;
     for own in counts {
         s = s.with_column(*own, k % 2);

@@ -12,7 +12,7 @@ ghost use Rattle.clause_set.specs.Stores.{Added, Closed, Fits, Within, Wrote, pa
 use sat::{Lit, Var};
 
 // How much of the two stores is in use.
-#[derive(Clone, Copy)]
+#[derive(Clone, Copy, Default)]
 pub struct Counts {
     pub clauses: usize,
     pub lits: usize,

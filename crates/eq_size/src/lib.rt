@@ -27,17 +27,13 @@ impl CountedColumns {
     fn start(x: u32, y: u32) -> CountedColumns
         ensures { result ≡ start x y }
     {
-        let none = Counts {
-            clauses: 0,
-            lits: 0,
-        };
         CountedColumns {
             x,
             y,
             carry: 0,
             vars: 0,
-            sent: none,
-            returned: none,
+            sent: Counts::default(),
+            returned: Counts::default(),
         }
     }
 

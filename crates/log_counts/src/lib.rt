@@ -13,7 +13,7 @@ ghost use Rattle.log_counts.specs.Growth.{Counted, Grown};
 
 // The numbers of a term. That they fit stays in the contracts (`ShapesFit`): as a ghost field each term of the specifications would carry a proof,
 // and the goals of the loops over them stayed open.
-#[derive(Clone, Copy)]
+#[derive(Clone, Copy, Default)]
 pub struct TermShape {
     pub negative: bool,
     pub coef: u32,

@@ -59,12 +59,7 @@ fn term_shapes(encodings: &[LogEncoding; 32], terms: &[i32]) -> [TermShape; 7]
     requires { TermsReady encodings.now terms.now }
     ensures { (shapes_of (take (length terms.now / 2) result) ≡ term_shapes (shape_map_of encodings.now) (terms_of terms.now)) × ShapesFit (take (length terms.now / 2) result) }
 {
-    let none = TermShape {
-        negative: false,
-        coef: 0,
-        bits: 0,
-    };
-    let mut ts = [none; 7];
+    let mut ts = [TermShape::default(); 7];
     for i in 0..terms.len() / 2 {
         let x = setting_at(terms, i);
         let s = setting_shape(encodings[x]);
