@@ -1,7 +1,7 @@
 -- `encoder_figures::linear_figures` meets its contract.
 use lib.IntN.{ℤ}
 use mathlib.Core.List.{List}
-use mathlib.Core.Path.{◌≡◌, ◌∙◌, ap, sym}
+use mathlib.Core.Path.{◌≡◌, ◌∙◌, ap, subst, sym}
 use mir.Syntax.{w32}
 use mir.Val.{of_z, to_z}
 use mir.ValLaws.{to_z-of_z}
@@ -9,6 +9,8 @@ use native.Mathlib.Omega.{arith}
 use Rattle.norm_csp.specs.Rules.{cmp_op_of, terms_of}
 use Rattle.norm_csp.specs.Turned.{turned}
 use Rattle.log_encoding.proofs.LinearSize.{encode_linear_log_size}
+use Rattle.log_encoding.specs.Turned.{turned_reached}
+use Rattle.terms_size.specs.Measured.{Measured}
 use Rattle.log_var.specs.Settings.{shape_map_of}
 use Rattle.sum_size.specs.Shapes.{turned_size}
 use Rattle.refusal.specs.Number.{status}
@@ -78,7 +80,10 @@ unfolding linear_figures
 returns c =
     let a = c.args in
     let s = (goal.at.returns c).Start in
-    let z = turned (cmp_op_of a.op) (given s) (terms_of a.terms.now) in
+    let e = shape_map_of a.env.encodings in
+    let ts = terms_of a.terms.now in
+    let z = turned (cmp_op_of a.op) (given s) ts in
+    let measured = subst (λ o. Measured 2 (turned_reached e o (given s) ts) (turned_size e o (given s) ts) c.turned_size.result) c.from.ensures c.turned_size.ensures in
     rw (given_is s) at
     (measured_figures (first s) (numbered s) (reached s) (size s) a.env.variables (encoded s) c.argument_checks.result c.argument_checks.ensures c.turned_size.result c.in_ok-argument_checks.was
-    (encode_linear_log_size (int_map a.env) z.op z.constant z.terms a.env.variables) c.turned_size.ensures c.figures_of.ensures)
+    (encode_linear_log_size (int_map a.env) z.op z.constant z.terms a.env.variables) measured c.figures_of.ensures)
