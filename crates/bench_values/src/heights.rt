@@ -6,6 +6,7 @@ use encoder_env::{EncoderEnv, well_formed};
 use encoder_linear::argument_checks;
 use log_product::mul_height;
 use log_turned::turned_height;
+use norm_csp::CmpOp;
 
 // Of a sum: 0 where it is refused before 13 is tested.
 pub fn sum_height(
@@ -19,7 +20,7 @@ pub fn sum_height(
     ensures { result ≡ sum_height env lits ends op constant terms.now }
 {
     match argument_checks(env, lits, ends, op, constant, terms) {
-        Ok(()) => turned_height(&env.encodings, op, constant, terms),
+        Ok(()) => turned_height(&env.encodings, CmpOp::from(op), constant, terms),
         Err(_) => 0,
     }
 }
@@ -31,5 +32,5 @@ pub fn product_height(env: EncoderEnv, lits: usize, ends: usize, x: u32, y: u32,
     if !well_formed(env, lits, ends) || x >= env.count || y >= env.count || m >= env.count {
         return 0;
     }
-    mul_height(env.encodings, x, y, m)
+    mul_height(&env.encodings, x, y, m)
 }

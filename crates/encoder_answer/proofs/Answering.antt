@@ -8,12 +8,11 @@ use Rattle.std.specs.Prelude.{Option, None, Some, Result, Ok, Err}
 use Rattle.sat.specs.Clause.{Clauses}
 use Rattle.sat.specs.Size.{entries}
 use Rattle.clause_set.specs.declared.Counts.{Counts}
-use Rattle.clause_set.specs.Stores.{AddedRule, Stores, add_clauses, after, stores, stores_of}
+use Rattle.clause_set.specs.Stores.{AddedRule, Stores, add_clauses, after, stores}
 use Rattle.clause_set.specs.declared.ClauseSet.{ClauseSet}
 use Rattle.clause_set.proofs.Writing.{given_back, wrote_as}
 use Rattle.clause_set.proofs.Adding.{count_after, used_after}
 use Rattle.sat.specs.Encoded.{EncodedRule}
-use Rattle.log_linear.specs.Added.{RuleOutcome, add_rule, rule_outcome}
 use Rattle.log_var.specs.declared.LogEncoding.{LogEncoding}
 use Rattle.refusal.specs.Number.{number}
 use Rattle.refusal.specs.declared.Refusal.{Refusal}
@@ -108,21 +107,6 @@ module _ (asks : JobChecks) (gives : JobAddition) (env : EncoderEnv) (lits ends 
 -- a rule that was written into a set of the job's stores
 pub rule_wrote : {written out : EncodedRule} {s t : ClauseSet} → AddedRule s written t → written ≡ out → CallWrote (rule out) s None t
 rule_wrote w e = record { wrote = wrote_as w (ap (λ (r : EncodedRule). r.vars) e) (ap (λ (r : EncodedRule). r.clauses) e); setting = refl }
-
--- a rule that was written into the two stores of such a set, and counted
-pub rule_stored : (out : EncodedRule) {env : EncoderEnv} {s t : ClauseSet} → JobSet env s → t.lits.ghost_name ≡ s.lits.ghost_name
-    → t.ends.ghost_name ≡ s.ends.ghost_name → t.base ≡ s.base → rule_outcome t.lits.now t.ends.now (record { vars = t.vars; used = t.used }) ≡ add_rule out (stores_of s)
-    → CallWrote (rule out) s None t
-rule_stored out {s = s} j lits ends base w =
-    rule_wrote
-    (record {
-      same_lits = lits;
-      same_ends = ends;
-      same_base = base;
-      vars_are = ap (λ (o : RuleOutcome). o.vars) w;
-      stores_are = ap (λ (o : RuleOutcome). o.stores) w ∙ ap (λ b. add_clauses b out.clauses (stores_of s)) (sym j.base);
-    })
-    refl
 
 -- a call that wrote into a set made of two slices, which then have what it wrote
 pub stores_wrote : (env : EncoderEnv) (a : Addition) {s t : ClauseSet} {r : Option LogEncoding} {d e : List ℕ} → CallWrote a s r t → JobSet env s

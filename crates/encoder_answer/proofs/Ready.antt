@@ -1,12 +1,16 @@
--- What the leaf functions of a rule ask of a setting's record and of the counts.
+-- What the leaf functions of a rule ask of a setting's record and of the set.
 use mathlib.Core.Path.{◌≡◌, ap, refl}
 use mathlib.Core.Bool.{Bool, ◌&&◌, cond, false, true}
-use Prim.Native.Nat.{◌<◌, ◌≤◌, ℕ}
+use Prim.Native.Nat.{◌+◌, ◌^◌, ◌<◌, ◌≤◌, ℕ}
 use native.Mathlib.Omega.{arith}
 use lib.Dec.{eqb, ltb}
 use lib.IntN.{pos}
 use borrow.Author.Tests.{eqb-true, ltb-true}
 use Rattle.arithmetic.specs.Integers.{down, up}
+use Rattle.clause_set.specs.declared.ClauseSet.{ClauseSet}
+use Rattle.clause_set.specs.declared.Counts.{Counts}
+use Rattle.clause_set.specs.Stores.{Below}
+use Rattle.encoder_answer.specs.Call.{JobSet}
 use Rattle.log_var.specs.Settings.{SettingReady}
 use Rattle.log_var.specs.declared.LogEncoding.{LogEncoding}
 use Rattle.encoder_env.specs.declared.EncoderEnv.{EncoderEnv}
@@ -44,6 +48,9 @@ setting_ready env lits ends k i h = go (ltb i env.count) refl (all_at (record_ho
         }
     go false u s = spare s
 
--- the counts of a well-formed job are within what they ask
-pub counts_ready : (env : EncoderEnv) (lits ends : ℕ) → Kept env lits ends → (env.variables ≤ 65535) × (env.literals ≤ 16777216) × (env.clauses ≤ 16777216)
-counts_ready env lits ends k = (k.variables_max, omega (arith, k.literals_in, k.lits_max), omega (arith, k.clauses_in, k.ends_max))
+-- a set of a well-formed job's stores has room for what they add
+pub set_ready : (env : EncoderEnv) (lits ends : ℕ) → Kept env lits ends → {s : ClauseSet} → JobSet env s → (s.vars ≤ 65535) × Below (2 ^ 24 + 1) s
+set_ready env lits ends k j = (
+  omega (arith, j.vars, k.variables_max),
+  (omega (arith, j.base, ap (λ (a : Counts). a.lits) j.used, k.literals_in, k.lits_max), omega (arith, ap (λ (a : Counts). a.clauses) j.used, k.clauses_in, k.ends_max)),
+)

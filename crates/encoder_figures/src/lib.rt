@@ -6,6 +6,7 @@ ghost use Rattle.encoder_figures.specs.Figures.{figured, linear_figures, mul_fig
 
 use encoder_env::EncoderEnv;
 use log_linear::RuleCounts;
+use norm_csp::CmpOp;
 use product_size::mul_size;
 use refusal::Refusal;
 use sum_size::turned_size;
@@ -47,7 +48,7 @@ pub fn linear_figures(
 {
     encoder_linear::argument_checks(env, 16777216, 16777216, op, constant, terms)?;
     let encodings = env.encodings;
-    figures_of(turned_size(encodings, op, constant, terms))
+    figures_of(turned_size(encodings, CmpOp::from(op), constant, terms))
 }
 
 // The figures of a product: what `encode_mul` would add.

@@ -12,6 +12,7 @@ use encoder_answer::{AddingCall, add};
 use encoder_env::{EncoderEnv, well_formed};
 use log_turned::{encode_turned, turned_height};
 use log_var::LogEncoding;
+use norm_csp::CmpOp;
 use refusal::Refusal;
 
 // Whether no setting lacks its coefficient, and there are at most six terms.
@@ -147,7 +148,7 @@ fn linear_checks(
     ensures { status result ≡ status_of (linear_checks env lits ends op constant terms.now) }
 {
     argument_checks(env, lits, ends, op, constant, terms)?;
-    if 12 < turned_height(&env.encodings, op, constant, terms) {
+    if 12 < turned_height(&env.encodings, CmpOp::from(op), constant, terms) {
         return Err(Refusal::ColumnTooTall);
     }
     Ok(())
@@ -171,7 +172,13 @@ impl AddingCall for Sum<'_> {
     }
 
     fn write(&self, env: EncoderEnv, set: &mut ClauseSet<'_>) -> Option<LogEncoding> {
-        encode_turned(set, &env.encodings, self.op, self.constant, self.terms);
+        encode_turned(
+            set,
+            &env.encodings,
+            CmpOp::from(self.op),
+            self.constant,
+            self.terms,
+        );
         None
     }
 }

@@ -52,7 +52,7 @@ fn mul_checks(
     ensures { status result ≡ status_of (mul_checks env lits ends x y m) }
 {
     argument_checks(env, lits, ends, x, y, m)?;
-    if 12 < mul_height(env.encodings, x, y, m) {
+    if 12 < mul_height(&env.encodings, x, y, m) {
         return Err(Refusal::ColumnTooTall);
     }
     Ok(())
@@ -76,13 +76,7 @@ impl AddingCall for Product {
     }
 
     fn write(&self, env: EncoderEnv, set: &mut ClauseSet<'_>) -> Option<LogEncoding> {
-        let vars = set.vars;
-        let at = set.used;
-        let lits = &mut *set.lits;
-        let ends = &mut *set.ends;
-        let new = encode_mul_log(lits, ends, env.encodings, self.x, self.y, self.m, vars, at);
-        set.vars = new.vars;
-        set.used = new.used;
+        encode_mul_log(set, &env.encodings, self.x, self.y, self.m);
         None
     }
 }

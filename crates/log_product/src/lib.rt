@@ -31,6 +31,7 @@ use log_sum::term_lits;
 use log_terms::{Weighted, gather, width_of};
 use log_var::LogEncoding;
 use log_weighted::{eq_constants, eq_target, weighted_height};
+use norm_csp::NormOp;
 use sat::Lit;
 
 // A setting's literals, the lowest first.
@@ -190,7 +191,7 @@ fn offsets_height(x: &LogEncoding, y: &LogEncoding, m: &LogEncoding) -> u32
     let xy = product_bits(xs.len, ys.len, 0);
     let ts = offset_terms(x, y, m, xy.bits);
     let k = mul_constant(x.offset, y.offset, m.offset);
-    own.max(weighted_height(0, &ts, 12, k))
+    own.max(weighted_height(NormOp::Eq, &ts, 12, k))
 }
 
 // The greatest height of a column that a product of three records reaches.

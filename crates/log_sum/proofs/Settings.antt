@@ -10,6 +10,9 @@ use lib.IntN.{negsuc, pos, ℤ}
 use lib.ListN.{length, get_or, set, take}
 use lib.Seq.{get_or-take, length-take-le, take-suc, take-suc-set}
 use lib.Signed.{lt_z}
+use mir.Syntax.{w32}
+use mir.Val.{SFits, of_z, to_z}
+use mir.ValLaws.{to_z-of_z}
 use Rattle.arithmetic.specs.Integers.{down, up}
 use Rattle.sat.specs.declared.Lit.{Lit}
 use Rattle.sat.specs.LitArray.{first_lits, lit, num}
@@ -83,3 +86,8 @@ module _ (es : List Encoding) (op : NormOp) (constant : ℤ) (zs : List ℤ) (ts
   -- and so are the clauses
   pub encoded_is : (v : ℕ) → encode_weighted op (map weighted_of ts) k v ≡ encode_linear_log (int_map_of es) op constant (terms_of zs) v
   encoded_is v = λ i. encode_weighted op (same i) (sum i) v
+
+-- the constant with the offsets, as the machine reads both
+pub offset_read : (es : List Encoding) (zs : List ℤ) {k r : ℤ} → SFits w32 k → SFits w32 r → r ≡ offset_constant (int_map_of es) (to_z w32 (of_z w32 k)) (terms_of zs)
+    → to_z w32 (of_z w32 r) ≡ offset_constant (int_map_of es) k (terms_of zs)
+offset_read es zs {k} {r} f g e = to_z-of_z w32 r g ∙ e ∙ ap (λ (z : ℤ). offset_constant (int_map_of es) z (terms_of zs)) (to_z-of_z w32 k f)

@@ -5,7 +5,7 @@
 ghost use Rattle.std.specs.Prelude.{◌≡◌, false, ◌+◌, ◌*◌, ◌/◌, ◌^◌, ◌≤◌, ◌<◌, pos, ◌*ℤ◌, ◌+ℤ◌, get_or, length, map, take};
 ghost use Rattle.arithmetic.specs.Integers.{down, up};
 ghost use Rattle.clause_set.specs.Stores.{AddedRule, Below};
-ghost use Rattle.norm_csp.specs.NormOp.{op_of};
+ghost use Rattle.norm_csp.specs.Operations.{normalized};
 ghost use Rattle.norm_csp.specs.Rules.{terms_of};
 ghost use Rattle.log_encoding.specs.AdderSize.{greatest_height, too_tall};
 ghost use Rattle.log_encoding.specs.EncodeLinearLog.{encode_linear_log, offset_constant, weighted, weighted_terms};
@@ -24,6 +24,7 @@ use log_linear::Bits;
 use log_terms::Weighted;
 use log_var::LogEncoding;
 use log_weighted::{encode_weighted, weighted_height};
+use norm_csp::NormOp;
 use sat::Lit;
 
 // Literals in the places of a term.
@@ -117,10 +118,10 @@ pub fn offset_constant(encodings: &[LogEncoding; 32], constant: i32, terms: &[i3
 }
 
 // The greatest height of a column that a sum over the settings' records reaches: above 12, document 01's 13.
-pub fn linear_height(encodings: &[LogEncoding; 32], op: u32, constant: i32, terms: &[i32]) -> u32
+pub fn linear_height(encodings: &[LogEncoding; 32], op: NormOp, constant: i32, terms: &[i32]) -> u32
     requires terms_ready { TermsReady encodings.now terms.now }
     requires constant_bound { (up constant ≤ 1000001) × (down constant ≤ 1000001) }
-    ensures { result ≡ greatest_height (linear_log_reached (shape_map_of encodings.now) (op_of op) constant (terms_of terms.now)) }
+    ensures { result ≡ greatest_height (linear_log_reached (shape_map_of encodings.now) (normalized op) constant (terms_of terms.now)) }
 {
     let ts = weighted_terms(encodings, terms);
     let k = offset_constant(encodings, constant, terms);
@@ -131,14 +132,14 @@ pub fn linear_height(encodings: &[LogEncoding; 32], op: u32, constant: i32, term
 pub fn encode_linear_log(
     set: &mut ClauseSet<'_>,
     encodings: &[LogEncoding; 32],
-    op: u32,
+    op: NormOp,
     constant: i32,
     terms: &[i32],
 )
     requires terms_ready { TermsReady encodings.now terms.now }
     requires constant_bound { (up constant ≤ 1000001) × (down constant ≤ 1000001) × (set.old.vars ≤ 65535) × Below (2 ^ 24 + 1) set.old }
-    requires terms_value { too_tall (linear_log_reached (shape_map_of encodings.now) (op_of op) constant (terms_of terms.now)) ≡ false }
-    ensures { AddedRule set.old (encode_linear_log (int_map_of encodings.now) (op_of op) constant (terms_of terms.now) set.old.vars) set.new }
+    requires terms_value { too_tall (linear_log_reached (shape_map_of encodings.now) (normalized op) constant (terms_of terms.now)) ≡ false }
+    ensures { AddedRule set.old (encode_linear_log (int_map_of encodings.now) (normalized op) constant (terms_of terms.now) set.old.vars) set.new }
 {
     let ts = weighted_terms(encodings, terms);
     let k = offset_constant(encodings, constant, terms);

@@ -10,7 +10,8 @@ use mir.Val.{of_z, to_z}
 use mir.ValLaws.{to_z-of_z}
 use Rattle.arithmetic.specs.Integers.{down, up}
 use Rattle.arithmetic.proofs.Integers.{apart_read}
-use Rattle.norm_csp.specs.NormOp.{NormOp, op_of}
+use Rattle.norm_csp.specs.NormOp.{NormOp}
+use Rattle.norm_csp.specs.Operations.{normalized}
 use Rattle.norm_csp.specs.Rules.{CmpOp, LinearTerm, terms_of}
 use Rattle.norm_csp.specs.Turned.{turned}
 use Rattle.log_encoding.proofs.Turned.{turned_constant}
@@ -34,6 +35,6 @@ module _ {op : CmpOp} {k : ℤ} {zs : List ℤ} {r : LinearLit} (t : Turns op k 
 
   -- what is made of operation, constant and terms is made of the turned sum's
   pub handed : {A : Type 0} (f : NormOp → ℤ → List LinearTerm → A)
-      → f (op_of r.op) (to_z w32 (of_z w32 r.constant)) (terms_of (take (length zs) r.terms))
+      → f (normalized r.op) (to_z w32 (of_z w32 r.constant)) (terms_of (take (length zs) r.terms))
       ≡ (let s = turned op k (terms_of zs) in f s.op s.constant s.terms)
   handed f = λ i. f (t.op_is i) ((machine ∙ t.constant_is) i) (t.terms_are i)

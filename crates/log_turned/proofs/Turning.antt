@@ -1,7 +1,7 @@
 -- A call's terms, the coefficients negated or not, entry by entry.
 use Prim.Native.Nat.{◌%◌, ◌*◌, ◌+◌, ◌<◌, ◌≤◌, suc, zero, ℕ}
 use lib.Dec.{eqb}
-use lib.IntN.{◌+ℤ◌, ◌-ℤ◌, +ℤ_idl, neg_ℤ, pos, ℤ}
+use lib.IntN.{◌-ℤ◌, +ℤ_idl, neg_ℤ, pos, ℤ}
 use lib.ListN.{get_or, length, set, take}
 use lib.Seq.{take-suc, take-suc-set}
 use mathlib.Core.Bool.{Bool, cond, false, true}
@@ -14,12 +14,15 @@ use mir.Val.{SFits, of_z, to_z}
 use mir.ValLaws.{to_z-of_z}
 use Rattle.arithmetic.specs.Integers.{down, up}
 use Rattle.arithmetic.proofs.Integers.{neg_reads}
-use Rattle.norm_csp.specs.Rules.{LinearTerm, cmp_op_of, gt, le, lt, terms_of}
-use Rattle.norm_csp.specs.Turned.{negated}
+use Rattle.norm_csp.specs.Rules.{CmpOp, LinearTerm, terms_of}
+use Rattle.norm_csp.specs.Operations.{normalized}
+use Rattle.norm_csp.specs.Turned.{negated, turned}
+use Rattle.norm_csp.specs.declared.NormOp.{NormOp}
+use Rattle.log_turned.specs.declared.LinearLit.{LinearLit}
 use Rattle.log_var.specs.declared.LogEncoding.{LogEncoding as Encoding}
 use Rattle.log_sum.specs.Terms.{TermsReady}
 use Rattle.log_sum.proofs.Offsets.{small_fits}
-use Rattle.log_turned.specs.Turning.{CoefsSmall, Turns, coefs_negated, entry_of, signed_terms}
+use Rattle.log_turned.specs.Turning.{CoefsSmall, Summed, Turns, coefs_negated, entry_of, signed_terms}
 
 -- A number negated by the machine ---------------------------------------------------------------------------------------
 
@@ -90,35 +93,15 @@ coefs_small es zs r = record { few = r.few; coefs = λ i h. let t = r.terms i h 
 
 -- A turned sum --------------------------------------------------------------------------------------------------------
 
--- operations by their numbers
-pub gt_op : (n : ℕ) → 3 ≤ n → (n ≡ 3 → ⊥) → (n ≡ 4 → ⊥) → cmp_op_of n ≡ gt
-gt_op zero h a b = absurd (omega arith)
-gt_op (suc zero) h a b = absurd (omega arith)
-gt_op (suc (suc zero)) h a b = absurd (omega arith)
-gt_op (suc (suc (suc zero))) h a b = absurd (a refl)
-gt_op (suc (suc (suc (suc zero)))) h a b = absurd (b refl)
-gt_op (suc (suc (suc (suc (suc n))))) h a b = refl
-
-module _ (k c : ℤ) (zs out : List ℤ) (long : length out ≡ 12) where
-  module _ (same : take (length zs) out ≡ zs) where
-    ready_same : (es : List Encoding) → TermsReady es zs → TermsReady es (take (length zs) out)
-    ready_same es r = subst (TermsReady es) (sym same) r
-
-    pub plain_turns : (n : ℕ) → n < 3 → c ≡ k → Turns (cmp_op_of n) k zs (record { op = n; constant = c; terms = out })
-    plain_turns zero h e = record { op_is = refl; constant_is = e; terms_are = ap terms_of same; long = long; ready = ready_same }
-    plain_turns (suc zero) h e = record { op_is = refl; constant_is = e; terms_are = ap terms_of same; long = long; ready = ready_same }
-    plain_turns (suc (suc zero)) h e = record { op_is = refl; constant_is = e; terms_are = ap terms_of same; long = long; ready = ready_same }
-    plain_turns (suc (suc (suc n))) h e = absurd (omega arith)
-
-    pub gt_turns : c ≡ k -ℤ pos 1 → Turns gt k zs (record { op = 2; constant = c; terms = out })
-    gt_turns e = record { op_is = refl; constant_is = e; terms_are = ap terms_of same; long = long; ready = ready_same }
-
-  module _ (same : take (length zs) out ≡ coefs_negated zs) where
-    ready_other : (es : List Encoding) → TermsReady es zs → TermsReady es (take (length zs) out)
-    ready_other es r = subst (TermsReady es) (sym same) (ready_negated es zs r)
-
-    pub le_turns : c ≡ neg_ℤ k → Turns le k zs (record { op = 2; constant = c; terms = out })
-    le_turns e = record { op_is = refl; constant_is = e; terms_are = ap terms_of same ∙ terms_negated zs; long = long; ready = ready_other }
-
-    pub lt_turns : c ≡ neg_ℤ (k +ℤ pos 1) → Turns lt k zs (record { op = 2; constant = c; terms = out })
-    lt_turns e = record { op_is = refl; constant_is = e; terms_are = ap terms_of same ∙ terms_negated zs; long = long; ready = ready_other }
+module _ {n : NormOp} {o : CmpOp} {k c : ℤ} {zs : List ℤ} {r : LinearLit} where
+  -- over the terms with their coefficients negated
+  pub negated_turns : Summed n c true zs r → normalized n ≡ (turned o k (terms_of zs)).op → c ≡ (turned o k (terms_of zs)).constant
+      → map negated (terms_of zs) ≡ (turned o k (terms_of zs)).terms → Turns o k zs r
+  negated_turns s e f g =
+      record {
+        op_is = ap normalized s.op_is ∙ e;
+        constant_is = s.constant_is ∙ f;
+        terms_are = ap terms_of s.terms_are ∙ terms_negated zs ∙ g;
+        long = s.long;
+        ready = λ es h. subst (TermsReady es) (sym s.terms_are) (ready_negated es zs h);
+      }

@@ -1,7 +1,8 @@
 -- A turned sum in code: its terms are one list, as a call has them.
 use Rattle.std.specs.Prelude.{◌%◌, ◌*◌, ◌+◌, ◌<◌, ◌≤◌, ℕ, eqb, neg_ℤ, pos, ℤ, get_or, length, take, Bool, ◌&&◌, cond, false, true, List, [], ◌∷◌, ◌≡◌}
 use Rattle.arithmetic.specs.Integers.{down, up}
-use Rattle.norm_csp.specs.NormOp.{op_of}
+use Rattle.norm_csp.specs.Operations.{normalized}
+use Rattle.norm_csp.specs.declared.NormOp.{NormOp}
 use Rattle.norm_csp.specs.Rules.{CmpOp, terms_of}
 use Rattle.norm_csp.specs.Turned.{turned}
 use Rattle.log_var.specs.declared.LogEncoding.{LogEncoding as Encoding}
@@ -28,9 +29,16 @@ pub record CoefsSmall (zs : List ℤ) : Type 0 where
   pub few : length zs ≤ 12
   pub coefs : (i : ℕ) → 2 * i + 1 < length zs → (up (get_or zs (2 * i + 1) (pos 0)) ≤ 255) × (down (get_or zs (2 * i + 1) (pos 0)) ≤ 255)
 
+-- r is a sum over a call's terms, the coefficients negated or not, in twelve places
+pub record Summed (op : NormOp) (constant : ℤ) (negate : Bool) (terms : List ℤ) (r : LinearLit) : Type 0 where
+  pub op_is : r.op ≡ op
+  pub constant_is : r.constant ≡ constant
+  pub terms_are : take (length terms) r.terms ≡ signed_terms negate terms
+  pub long : length r.terms ≡ 12
+
 -- r is the turned sum; its terms stand in twelve places, and are within bounds where those as given are
 pub record Turns (op : CmpOp) (constant : ℤ) (terms : List ℤ) (r : LinearLit) : Type 0 where
-  pub op_is : op_of r.op ≡ (turned op constant (terms_of terms)).op
+  pub op_is : normalized r.op ≡ (turned op constant (terms_of terms)).op
   pub constant_is : r.constant ≡ (turned op constant (terms_of terms)).constant
   pub terms_are : terms_of (take (length terms) r.terms) ≡ (turned op constant (terms_of terms)).terms
   pub long : length r.terms ≡ 12

@@ -38,10 +38,11 @@ fn multiplier_size(x: usize, y: usize, given: usize) -> Option<MultiplierSize>
     let c = row_counts(x, y);
     let counts = c.counts;
     let width = c.width.max(given);
-    if 12 < greatest_height(counts, width, 0) {
+    let columns = &counts[..width];
+    if 12 < greatest_height(columns, 0) {
         return None;
     }
-    let s = adder_size(&counts[..width], 0);
+    let s = adder_size(columns, 0);
     let pairs = x * y;
     let gates = Counts {
         clauses: pairs * 3,

@@ -4,8 +4,8 @@
 ghost use Rattle.std.specs.Prelude.{◌≡◌, ◌+◌, ◌/◌, ◌≤◌, ◌<◌, length, take};
 ghost use Rattle.arithmetic.specs.Bits.{shl};
 ghost use Rattle.arithmetic.specs.Integers.{down, up};
-ghost use Rattle.norm_csp.specs.NormOp.{op_of};
-ghost use Rattle.norm_csp.specs.Rules.{cmp_op_of, terms_of};
+ghost use Rattle.norm_csp.specs.Operations.{compared, normalized};
+ghost use Rattle.norm_csp.specs.Rules.{terms_of};
 ghost use Rattle.log_encoding.specs.LinearSize.{linear_log_reached, linear_log_size, term_shapes, weighted_shape};
 ghost use Rattle.log_encoding.specs.Turned.{turned_reached};
 ghost use Rattle.log_encoding.specs.VarSize.{setting_shape};
@@ -21,6 +21,7 @@ use log_linear::RuleCounts;
 use log_sum::{coef_at, offset_constant, setting_at};
 use log_turned::turned;
 use log_var::LogEncoding;
+use norm_csp::{CmpOp, NormOp};
 use terms_size::terms_size;
 
 // The numbers of a setting: how many bits it has, and its offset.
@@ -75,13 +76,13 @@ fn term_shapes(encodings: &[LogEncoding; 32], terms: &[i32]) -> [TermShape; 7]
 // A sum of Eq, Ne or Ge; none where a column is above 12.
 fn linear_size(
     encodings: &[LogEncoding; 32],
-    op: u32,
+    op: NormOp,
     constant: i32,
     terms: &[i32],
 ) -> Option<RuleCounts>
     requires terms_ready { TermsReady encodings.now terms.now }
     requires constant_bound { (up constant ≤ 1000001) × (down constant ≤ 1000001) }
-    ensures { Measured 2 (linear_log_reached (shape_map_of encodings.now) (op_of op) constant (terms_of terms.now)) (linear_log_size (shape_map_of encodings.now) (op_of op) constant (terms_of terms.now)) result }
+    ensures { Measured 2 (linear_log_reached (shape_map_of encodings.now) (normalized op) constant (terms_of terms.now)) (linear_log_size (shape_map_of encodings.now) (normalized op) constant (terms_of terms.now)) result }
 {
     let ts = term_shapes(encodings, terms);
     let k = offset_constant(encodings, constant, terms);
@@ -91,13 +92,13 @@ fn linear_size(
 // A sum of any operation; none where a column is above 12.
 pub fn turned_size(
     encodings: [LogEncoding; 32],
-    op: u32,
+    op: CmpOp,
     constant: i32,
     terms: &[i32],
 ) -> Option<RuleCounts>
     requires terms_ready { TermsReady encodings terms.now }
     requires constant_bound { (up constant ≤ 1000000) × (down constant ≤ 1000000) }
-    ensures { Measured 2 (turned_reached (shape_map_of encodings) (cmp_op_of op) constant (terms_of terms.now)) (turned_size (shape_map_of encodings) (cmp_op_of op) constant (terms_of terms.now)) result }
+    ensures { Measured 2 (turned_reached (shape_map_of encodings) (compared op) constant (terms_of terms.now)) (turned_size (shape_map_of encodings) (compared op) constant (terms_of terms.now)) result }
 {
     let t = turned(op, constant, terms);
     linear_size(&encodings, t.op, t.constant, &t.terms[..terms.len()])

@@ -1,19 +1,14 @@
 -- The two sums counted and compared are as many as the definition says.
-use Prim.Native.Nat.{◌+◌, ◌≤◌, min, suc, zero, ℕ}
-use borrow.Author.Tests.{ne_eqb}
-use lib.Dec.{eqb}
-use lib.IntN.{ℤ}
+use Prim.Native.Nat.{◌+◌, ◌≤◌, min, ℕ}
 use lib.ListN.{length}
 use mathlib.Core.Bool.{Bool, false, true}
 use mathlib.Core.List.{List, ◌++◌}
-use mathlib.Core.Path.{◌≡◌, ap₂, refl}
+use mathlib.Core.Path.{◌≡◌, ap₂}
 use native.Mathlib.Omega.{arith}
 use Rattle.std.specs.Prelude.{Some}
-use Rattle.arithmetic.specs.Integers.{down, up}
-use Rattle.norm_csp.specs.NormOp.{op_of}
 use Rattle.log_linear.specs.declared.RuleCounts.{RuleCounts}
 use Rattle.log_encoding.specs.AdderSize.{Reached, adder_count, adder_vars, greatest_height}
-use Rattle.log_encoding.specs.LinearSize.{WeightedShape, linear_size, sign_reached}
+use Rattle.log_encoding.specs.LinearSize.{WeightedShape, sign_reached}
 use Rattle.adder_size.specs.Counted.{Counted}
 use Rattle.adder_size.specs.declared.AdderSize.{AdderSize}
 use Rattle.compare_size.specs.Compared.{Compared, SumReady, last_count}
@@ -66,10 +61,3 @@ module _ (ps : List WeightedShape) (a b : ℕ) (p n : AdderSize) (r : RuleCounts
       (omega (arith, c.vars, x.steady.carries, y.steady.carries, x.few, y.few))
       (omega (arith, c.clauses, x.steady.clauses, y.steady.clauses, x.few, y.few, most.0))
       (omega (arith, c.lits, x.steady.lits, y.steady.lits, x.few, y.few, most.1))
-
--- Ne and Ge by their number
-pub compared_size : (m : ℕ) → (m ≡ 0 → ⊥) → (ps : List WeightedShape) (z : ℤ) (a b : ℕ) → a ≡ up z → b ≡ down z
-    → terms_size (compared_op (eqb m 1)) ps a b ≡ linear_size (op_of m) ps z
-compared_size zero h ps z a b p q = absurd (h refl)
-compared_size (suc zero) h ps z a b p q = rw (p, q)
-compared_size (suc (suc m)) h ps z a b p q = rw (p, q, ne_eqb (suc (suc m)) 1 (omega arith))

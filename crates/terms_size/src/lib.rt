@@ -4,7 +4,8 @@
 ghost use Rattle.std.specs.Prelude.{◌≡◌, false, true, ◌++◌, max, ◌≤◌, ◌<◌};
 ghost use Rattle.arithmetic.specs.Bits.{bit_length};
 ghost use Rattle.arithmetic.specs.Integers.{down, up};
-ghost use Rattle.norm_csp.specs.NormOp.{eq, op_of};
+ghost use Rattle.norm_csp.specs.NormOp.{eq};
+ghost use Rattle.norm_csp.specs.Operations.{normalized};
 ghost use Rattle.log_encoding.specs.LinearSize.{linear_reached, linear_size, sign_reached};
 ghost use Rattle.log_counts.specs.Counted.{ShapesFit, shapes_of};
 ghost use Rattle.terms_size.specs.Measured.{ColumnsReach, Measured, compared_op, terms_size};
@@ -17,6 +18,7 @@ use log_adder::greatest_height;
 use log_adder2::eq_greatest_height;
 use log_counts::{ColumnCounts, TermShape, eq_counts, negated_bits, sign_counts};
 use log_linear::RuleCounts;
+use norm_csp::NormOp;
 
 // The columns with a constant's bits, and the greatest height that is reached.
 #[derive(Clone, Copy)]
@@ -79,16 +81,17 @@ pub fn equation_size(ts: &[TermShape], a: u32, b: u32) -> Option<RuleCounts>
     }
 }
 
-// A sum of terms with a constant. Operation 0 is Eq, 1 Ne, 2 Ge: it stays a number, as log_turned hands it on and `op_of` reads it.
-pub fn terms_size(op: u32, ts: &[TermShape], constant: i32) -> Option<RuleCounts>
+// A sum of terms with a constant.
+pub fn terms_size(op: NormOp, ts: &[TermShape], constant: i32) -> Option<RuleCounts>
     requires shapes_fit { ShapesFit ts.now }
     requires constant_bound { (up constant < 33554432) × (down constant < 33554432) }
-    ensures { Measured 2 (linear_reached (op_of op) (shapes_of ts.now) (up constant) (down constant)) (linear_size (op_of op) (shapes_of ts.now) constant) result }
+    ensures { Measured 2 (linear_reached (normalized op) (shapes_of ts.now) (up constant) (down constant)) (linear_size (normalized op) (shapes_of ts.now) constant) result }
 {
     let a = arithmetic::up(constant);
     let b = arithmetic::down(constant);
-    if op == 0 {
-        return equation_size(ts, a, b);
+    match op {
+        NormOp::Eq => equation_size(ts, a, b),
+        NormOp::Ne => comparison_size(true, ts, a, b),
+        NormOp::Ge => comparison_size(false, ts, a, b),
     }
-    comparison_size(op == 1, ts, a, b)
 }

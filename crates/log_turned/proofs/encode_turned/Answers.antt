@@ -4,7 +4,7 @@ use mir.Syntax.{w32}
 use mir.Val.{of_z, to_z}
 use mir.ValLaws.{to_z-of_z}
 use Rattle.clause_set.proofs.Writing.{wrote_as}
-use Rattle.norm_csp.specs.Rules.{cmp_op_of}
+use Rattle.norm_csp.specs.Operations.{compared}
 use Rattle.log_encoding.specs.AdderSize.{too_tall}
 use Rattle.log_encoding.specs.EncodeLinearLog.{encode_linear_log}
 use Rattle.log_encoding.specs.LinearSize.{linear_log_reached}
@@ -19,7 +19,7 @@ use Rattle.log_turned.proofs.encode_turned.Goals.{After-turned-t, Start}
 constant-is : (s : Start) → to_z w32 (of_z w32 s.args.constant) ≡ s.args.constant
 constant-is s = to_z-of_z w32 s.args.constant s.ranges.constant
 
-turns : (c : After-turned-t) → let a = c.args in Turns (cmp_op_of a.op) a.constant a.terms.now c.turned-t.result
+turns : (c : After-turned-t) → let a = c.args in Turns (compared a.op) a.constant a.terms.now c.turned-t.result
 turns c = rw (constant-is c.before) at c.turned-t.ensures
 
 pub turned-t-requires : goal.turned-t-requires

@@ -1,7 +1,7 @@
 -- `log_turned::signed_terms` meets its contract.
 use Prim.Native.Nat.{◌+◌}
 use mathlib.Core.Path.{◌≡◌, ◌∙◌, ap}
-use native.Mathlib.Omega.{arith}
+use Rattle.std.proofs.Common.{arith, rules}
 use lib.IntN.{pos, ℤ}
 use lib.ListN.{get_or, length, length-set, set, take}
 use lib.Seq.{take_all}
@@ -16,7 +16,7 @@ pub loop-i-preserved : goal.loop-i-preserved
 loop-i-preserved c =
     let l = c.loop-i in
     let terms = c.args.terms.now in
-    let z-is : to_z w32 (of_z w32 (get_or terms l.i (pos 0))) ≡ get_or terms l.i (pos 0) = to_z-of_z w32 _ (record { sfits = c.z-1.given }) in
+    let z-is : to_z w32 (of_z w32 (get_or terms l.i (pos 0))) ≡ get_or terms l.i (pos 0) = to_z-of_z w32 _ (search rules) in
     let value = to_z-of_z w32 c.entry.result (record { sfits = c.entry.type_inv }) ∙ c.entry.ensures ∙ ap (entry_of c.args.negate l.i) z-is in (
       length-set l.out l.i _ ∙ l.invariant.0,
       ap (λ (z : ℤ). take (l.i + 1) (set l.out l.i z)) value

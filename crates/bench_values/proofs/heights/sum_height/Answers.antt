@@ -8,7 +8,10 @@ use lib.IntN.{ℤ}
 use mir.Syntax.{w32}
 use mir.Val.{of_z, to_z}
 use mir.ValLaws.{to_z-of_z}
+use Rattle.norm_csp.specs.Rules.{terms_of}
 use Rattle.log_encoding.specs.AdderSize.{greatest_height}
+use Rattle.log_encoding.specs.Turned.{turned_reached}
+use Rattle.log_var.specs.Settings.{shape_map_of}
 use Rattle.encoder_answer.specs.Outcome.{status_of}
 use Rattle.encoder_linear.specs.Sums.{argument_checks, sum_reached}
 use Rattle.encoder_linear.proofs.Added.{ArgumentsKnown, arguments_known}
@@ -44,6 +47,7 @@ returns-in-Ok c =
     let a = c.args in
     let h = greatest_height (sum_reached a.env a.op (given s) a.terms.now) in
     let k : c.turned_height.result ≡ sum_height a.env a.lits a.ends a.op (given s) a.terms.now =
-    c.turned_height.ensures ∙ sym (ap (λ (n : ℕ). cond (eqb n 0) h 0) (passed s))
+    c.turned_height.ensures ∙ ap (λ o. greatest_height (turned_reached (shape_map_of a.env.encodings) o (given s) (terms_of a.terms.now))) c.from.ensures
+    ∙ sym (ap (λ (n : ℕ). cond (eqb n 0) h 0) (passed s))
     in
     rw (to_z-of_z w32 a.constant c.ranges.constant) at k

@@ -1,9 +1,10 @@
 -- `encoder_mul::Product::write` meets its contract.
-use mathlib.Core.Path.{refl}
-use Rattle.encoder_answer.proofs.Answering.{rule_stored}
-use Rattle.encoder_answer.proofs.Ready.{counts_ready}
+use mathlib.Core.Path.{ap}
+use Rattle.encoder_answer.proofs.Answering.{rule_wrote}
+use Rattle.encoder_answer.proofs.Ready.{set_ready}
 use Rattle.encoder_mul.proofs.Ready.{known_ready}
-use Rattle.encoder_mul.specs.Products.{product_encoded}
+use Rattle.log_encoding.specs.EncodeMulLog.{encode_mul_log}
+use Rattle.encoder_env.specs.WellFormed.{int_map}
 use Rattle.encoder_mul.proofs.Added.{ProductKnown, product_known}
 use Rattle.encoder_mul.proofs.ProductAddingCall.write.Goals as goal
 use Rattle.encoder_mul.proofs.ProductAddingCall.write.Goals.{Start}
@@ -12,15 +13,12 @@ use Rattle.encoder_mul.proofs.ProductAddingCall.write.Goals.{Start}
 known : (c : Start) → let p = c.args.self.now in ProductKnown c.args.env c.requires.passed.0 c.requires.passed.1 p.x p.y p.m
 known c = let p = c.args.self.now in let q = c.requires.passed in product_known c.args.env q.0 q.1 p.x p.y p.m q.2
 
-pub encode_mul_log-new-requires-clause-products_ready : goal.encode_mul_log-new-requires-clause-products_ready
-encode_mul_log-new-requires-clause-products_ready c = known_ready _ _ _ _ _ _ (known (goal.at.encode_mul_log-new-requires-clause-products_ready c).Start)
-
-pub encode_mul_log-new-requires-clause-vars_bound : goal.encode_mul_log-new-requires-clause-vars_bound
-encode_mul_log-new-requires-clause-vars_bound c =
-    rw (c.requires.job.vars, c.requires.job.used) (counts_ready _ _ _ (known (goal.at.encode_mul_log-new-requires-clause-vars_bound c).Start).holds)
+pub encode_mul_log-requires : goal.encode_mul_log-requires
+encode_mul_log-requires c =
+    let k = known (goal.at.encode_mul_log-requires c).Start in
+    record { products_ready = known_ready _ _ _ _ _ _ k; vars_bound = set_ready _ _ _ k.holds c.requires.job; heights = k.heights }
 
 pub returns : goal.returns
 returns c =
-    let wrote = rw c.requires.job.vars at c.encode_mul_log-new.ensures in
     let p = c.args.self.now in
-    rule_stored (product_encoded c.args.env p.x p.y p.m) c.requires.job refl refl refl wrote
+    rule_wrote c.encode_mul_log.ensures (ap (encode_mul_log (int_map c.args.env) p.x p.y p.m) c.requires.job.vars)
