@@ -6,10 +6,8 @@ use Prim.Native.Nat.{ℕ, zero, suc, ◌+◌, ◌-◌, ◌*◌, ◌^◌, ◌≤�
 use native.Mathlib.Nat.{sub-zero}
 use native.Mathlib.Omega.{arith}
 use borrow.Author.Tests.{le-leb, leb-false, leb-true, lt-leb}
-use native.Mathlib.Numerals.{add-one}
 use lib.Dec.{leb}
-use lib.Seq.{take-suc, take-suc-set}
-use lib.ListN.{length, take, get_or, set, length-set, length-map}
+use lib.ListN.{length, length-map}
 use Rattle.sat.specs.declared.Lit.{Lit}
 use Rattle.mixed.specs.declared.LinearInfo.{LinearInfo}
 use Rattle.log_adder.specs.declared.VarRange.{VarRange}
@@ -25,7 +23,7 @@ use Rattle.log_encoding.specs.Adder2.{eq_column, eq_ge_terms, eq_le_terms}
 use Rattle.log_encoding.specs.Column.{column, ge_terms, le_terms}
 use Rattle.sat.specs.Fresh.{fresh}
 use Rattle.log_adder.specs.ColumnInfo.{ColumnSized, column_clauses, column_infos, eq_infos, lit_info, own_lits, range_info, range_lits}
-use Rattle.sat.specs.LitArray.{lit, num}
+use Rattle.sat.specs.LitArray.{num}
 use Rattle.log_encoding.proofs.ColumnMost.{Most, column_most, eq_column_most}
 
 -- The thresholds of consecutive variables ---------------------------------------------------------------------------
@@ -178,28 +176,3 @@ module _ (c : ColumnInfo) (z : ColumnSized c) where
 
   pub eq_column_size : (x y : ℕ) → Most (eq_column (own_lits c) (range_lits c.carry) x (range_lits c.next) y)
   eq_column_size = eq_column_most (own_lits c) (range_lits c.carry) (range_lits c.next) own_few next_few
-
--- The array of terms -------------------------------------------------------------------------------------------------
-
--- one term more stored
-pub infos_more : (f : Lit → LinearInfo) (own : List Lit) (ts : List LinearInfo) (i : ℕ) → i < length own → i < length ts
-    → take i ts ≡ map f (take i own) → take (i + 1) (set ts i (f (get_or own i (lit 0)))) ≡ map f (take (i + 1) own)
-infos_more f own ts i h k e =
-    rw (add-one i, take-suc-set ts i (f (get_or own i (lit 0))) k, take-suc own i (lit 0) h, map-append f (take i own) (get_or own i (lit 0) ∷ []), e)
-
--- the three after the own literals
-pub infos_three : (ts : List LinearInfo) (n : ℕ) (a b c : LinearInfo) (own : List LinearInfo) → n + 3 ≤ length ts → take n ts ≡ own
-    → take (n + 3) (set (set (set ts n a) (n + 1) b) (n + 2) c) ≡ own ++ (a ∷ b ∷ c ∷ [])
-infos_three ts n a b c own h e =
-    let t₁ : List LinearInfo = set ts n a in
-    let t₂ : List LinearInfo = set t₁ (n + 1) b in
-    let l₁ : length t₁ ≡ length ts = length-set ts n a in
-    let l₂ : length t₂ ≡ length t₁ = length-set t₁ (n + 1) b in
-    let i₁ : n + 1 ≡ suc n = omega arith in
-    let i₂ : n + 2 ≡ suc (n + 1) = omega arith in
-    let i₃ : n + 3 ≡ suc (n + 2) = omega arith in
-    let p : take (suc n) t₁ ≡ own ++ (a ∷ []) = take-suc-set ts n a (omega arith) ∙ ap (λ (x : List LinearInfo). x ++ (a ∷ [])) e in
-    let q : take (suc (n + 1)) t₂ ≡ (own ++ (a ∷ [])) ++ (b ∷ []) = take-suc-set t₁ (n + 1) b (omega arith) ∙ ap (λ (x : List LinearInfo). x ++ (b ∷ [])) (ap (λ (k : ℕ). take k t₁) i₁ ∙ p) in
-    let r : take (suc (n + 2)) (set t₂ (n + 2) c) ≡ ((own ++ (a ∷ [])) ++ (b ∷ [])) ++ (c ∷ []) =
-    take-suc-set t₂ (n + 2) c (omega arith) ∙ ap (λ (x : List LinearInfo). x ++ (c ∷ [])) (ap (λ (k : ℕ). take k t₂) i₂ ∙ q) in
-    ap (λ (k : ℕ). take k (set t₂ (n + 2) c)) i₃ ∙ r ∙ simp append_assoc

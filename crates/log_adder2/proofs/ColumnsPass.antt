@@ -121,17 +121,6 @@ module _ (cols : List (List Lit)) (counts : List ℕ) where
 
       module _ (fit : last < 26) (low : (i : ℕ) → AllLow (get_or cols i [])) (own : List Lit)
           (o : (own ≡ take (get_or counts i 0) (get_or cols i [])) × (length own ≡ get_or counts i 0)) where
-        pub next_ready : i < last → EqColumnReady own s.carry s
-        next_ready h =
-            record {
-              high = omega (arith, columns_high, o.1);
-              x = m.x;
-              y = m.y;
-              vars = omega (arith, m.vars);
-              first = omega (arith, m.first, m.vars);
-              low = rw o.0 (take_low (get_or counts i 0) (get_or cols i []) (low i));
-            }
-
         pub last_ready : last ≤ i → EqColumnReady own carry s
         last_ready h =
             let k = last_carry h in

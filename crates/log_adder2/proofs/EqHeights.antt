@@ -108,8 +108,5 @@ module _ (counts : List ℕ) where
             same = omega (arith, left.same, step);
           }
 
-      pub heights_dead : get_or counts i 0 + c < (x + y) % 2 → n ≡ greatest_height (eq_reached counts x₀ y₀ 0)
-      heights_dead k = omega (arith, left.same, greatest_dead (length counts - i) i x y c (omega arith) k)
-
     pub heights_end : {x y c most i : ℕ} → HeightsLeft x y c most i → length counts ≤ i → most ≡ greatest_height (eq_reached counts x₀ y₀ 0)
     heights_end {x} {y} {c} {most} {i} left h = omega (arith, left.same, greatest_end (length counts - i) i x y c (omega arith))

@@ -1,13 +1,11 @@
 -- The literals of a product's bits, numbered from the columns reached; and how many bits there are at most.
 use mathlib.Core.Path.{◌≡◌, refl, ap, sym, ◌∙◌}
-use mathlib.Core.List.{List, [], ◌∷◌, ◌++◌, append_assoc, append-nil, map, map-append}
-use Prim.Native.Nat.{ℕ, suc, zero, ◌+◌, ◌-◌, ◌*◌, ◌/◌, ◌^◌, ◌≤◌, ◌<◌}
+use mathlib.Core.List.{List, [], ◌∷◌, ◌++◌, append_assoc, append-nil, map}
+use Prim.Native.Nat.{ℕ, suc, zero, ◌+◌, ◌-◌, ◌*◌, ◌/◌, ◌≤◌, ◌<◌}
 use native.Mathlib.Nat.{not-suc-le-zero, sub-zero}
-use native.Mathlib.Numerals.{add-one, sub-one}
+use native.Mathlib.Numerals.{sub-one}
 use native.Mathlib.Omega.{arith}
-use lib.ListN.{length, get_or, length-set, set, take}
-use lib.Seq.{take-suc-set}
-use Rattle.sat.specs.LitArray.{lit, num}
+use lib.ListN.{length, get_or}
 use Rattle.log_linear.specs.Added.{bits_of}
 use Rattle.arithmetic.specs.Bits.{shl}
 use Rattle.sat.specs.Encoded.{EncodedBits}
@@ -16,7 +14,6 @@ use Rattle.sat.proofs.Fresh.{length_fresh}
 use Rattle.log_encoding.specs.Adder.{AdderColumn, adder, carry_size, empty_column, extend}
 use Rattle.log_encoding.specs.Gather.{pad_columns}
 use Rattle.log_encoding.specs.AdderSize.{ColumnShape, Reached, column_shape, input_shapes, pad_shapes, push_counts, reached, reached_column, reached_past}
-use Rattle.sat.proofs.Every.{every_set}
 use Rattle.log_encoding.proofs.AdderSize.{pad_columns_shapes}
 use Rattle.log_gather.specs.Arrays.{AllSmall}
 use Rattle.sat.specs.declared.Lit.{Lit}
@@ -140,20 +137,6 @@ multiplier_numbered xs ys v =
 
 -- One bit ----------------------------------------------------------------------------------------------------------------
 
-pub bit_added : (own : ℕ) (s : BitsState) (l : Lit) → length s.bits.lits ≡ 32 → s.bits.len < 32 → s.vars ≤ 2 ^ 29 → s.carry ≤ 144 → own ≤ 144
-    → l.0 ≡ 2 * (s.vars + (own + s.carry) / 2)
-    → BitAdded own s (record { bits = record { lits = set s.bits.lits s.bits.len l; len = s.bits.len + 1 }; vars = s.vars + (own + s.carry) / 2 + 1; carry = (own + s.carry) / 2 })
-bit_added own s l long h a b k e =
-    let n : s.bits.len < length s.bits.lits = omega arith in
-    record {
-      bits = rw (add-one s.bits.len, take-suc-set s.bits.lits s.bits.len l n, map-append num (take s.bits.len s.bits.lits) (l ∷ []), e);
-      len = refl;
-      vars = omega arith;
-      carry = refl;
-      long = length-set s.bits.lits s.bits.len l ∙ long;
-      small = λ z. every_set (lit 0) (λ (x : Lit). x.0 < 2147483647) s.bits.lits s.bits.len l z (omega arith);
-    }
-
 -- The loops --------------------------------------------------------------------------------------------------------------
 
 left_as : {all : List Reached} {v : ℕ} {s : BitsState} {a b : List Reached} → a ≡ b → BitsLeft all v a s → BitsLeft all v b s
@@ -257,12 +240,6 @@ module _ (counts : List ℕ) (v : ℕ) where
         left = left_as (ap (λ (c : ℕ). reached (input_shapes (width - (i + 1)) (i + 1) counts 0) c) (n ∙ sym a.carry))
             (bits_turn r (reached (input_shapes (width - (i + 1)) (i + 1) counts 0) r.next) own s t few n (left_as e l.left) a);
       }
-
-  -- a column is left
-  pub columns_some : (s : BitsState) (i : ℕ) → i < width → ColumnsLeft s i → s.bits.len < length all·
-  columns_some s i h l =
-      let e = ap length (shapes_step (width - i) i s.carry (omega arith)) in
-      omega (arith, l.left.len)
 
   pub columns_end : (s : BitsState) (i : ℕ) → width ≤ i → ColumnsLeft s i → PastLeft all· v s
   columns_end s i h l =

@@ -32,8 +32,8 @@ use Rattle.log_terms.specs.Gathered.{Gathered}
 use Rattle.log_weighted.proofs.Columns.{counts_are, eq_output_is}
 use Rattle.log_weighted.proofs.Compared.{both_fit}
 use Rattle.log_mul.specs.Added.{MultiplierAdded}
-use Rattle.log_encoding.specs.EncodeMulLog.{encode_mul, mul_constant, offset_terms, product_with_offsets}
-use Rattle.log_encoding.specs.Multiply.{multiplier, product}
+use Rattle.log_encoding.specs.EncodeMulLog.{mul_constant, offset_terms, product_with_offsets}
+use Rattle.log_encoding.specs.Multiply.{multiplier}
 use Rattle.log_encoding.specs.MulSize.{mul_reached, multiplier_reached, no_offsets, offset_shapes, offsets_reached}
 use Rattle.log_encoding.proofs.MulSize.{multiplier_size, offset_shapes_are}
 use Rattle.log_product.specs.Ready.{ColumnsReady, EqInputReady, multiply_then}
@@ -165,12 +165,3 @@ shapes_reached x y m ws bits z same l c =
 module _ (x y m : LogEncoding) (t : Bool) (e : t ≡ no_offsets (setting_shape x) (setting_shape y) (setting_shape m)) where
   pub reached_zero : t ≡ true → mul_reached (setting_shape x) (setting_shape y) (setting_shape m) ≡ multiplier_reached (length x.lits) (length y.lits) (length m.lits)
   reached_zero f = rw (sym e ∙ f)
-
-  pub reached_offsets : t ≡ false → mul_reached (setting_shape x) (setting_shape y) (setting_shape m) ≡ offsets_reached (setting_shape x) (setting_shape y) (setting_shape m)
-  reached_offsets f = rw (sym e ∙ f)
-
-  pub encode_zero : t ≡ true → (v : ℕ) → product x.lits y.lits m.lits v ≡ encode_mul x y m v
-  encode_zero f v = rw (sym e ∙ f)
-
-  pub encode_offsets : t ≡ false → (v : ℕ) → product_with_offsets x y m v ≡ encode_mul x y m v
-  encode_offsets f v = rw (sym e ∙ f)
