@@ -28,7 +28,7 @@ use log_adder2::{EqInput, order_carries, push_returned_set};
 use log_linear::Bits;
 use log_mul::{encode_product, log_encoding_multiplier, multiplier_height, product_bits};
 use log_sum::term_lits;
-use log_terms::{Weighted, gather, width_of};
+use log_terms::{Terms, Weighted};
 use log_var::LogEncoding;
 use log_weighted::{eq_constants, eq_target, weighted_height};
 use norm_csp::NormOp;
@@ -77,15 +77,14 @@ pub fn mul_constant(x: i32, y: i32, m: i32) -> i32
 }
 
 // Eq over the terms with a constant: how many columns, and what they have to reach.
-fn eq_input(ts: &[Weighted], constant: i32, vars: u32) -> EqInput
-    requires terms_fit { TermsFit 12 ts.now }
-    requires constant_bound { (up constant < 33554432) × (down constant < 33554432) }
-    ensures { EqInputReady (map weighted_of ts.now) (up constant) (down constant) vars result }
+fn eq_input(ts: &Terms<'_>, constant: i32, vars: u32) -> EqInput
+    requires { (up constant < 33554432) × (down constant < 33554432) }
+    ensures { EqInputReady (map weighted_of ts.now.list.now) (up constant) (down constant) vars result }
 {
     let a = arithmetic::up(constant);
     let target = eq_target(ts, arithmetic::down(constant));
     EqInput {
-        width: width_of(ts, 12),
+        width: ts.width_of(),
         x: a.saturating_sub(target),
         y: target.saturating_sub(a),
         vars,
@@ -103,13 +102,13 @@ fn product_without_columns(set: &mut ClauseSet<'_>, x: &[Lit], y: &[Lit], g: EqI
 }
 
 // Eq with columns: its ordering clauses, the multiplier's clauses, its returned set. Its variables come behind the multiplier's.
-fn product_with_columns(set: &mut ClauseSet<'_>, ts: &[Weighted], x: &[Lit], y: &[Lit], g: EqInput)
-    requires terms_fit { TermsFit 12 ts.now × FactorsReady x.now y.now set.old }
-    requires columns_ready { ColumnsReady (gather (map weighted_of ts.now) []) g }
-    ensures { AddedRule set.old (multiply_then (multiplier (map num x.now) (map num y.now) [] set.old.vars) (eq_adder (gather (map weighted_of ts.now) []) g.x g.y g.vars)) set.new }
+fn product_with_columns(set: &mut ClauseSet<'_>, ts: &Terms<'_>, x: &[Lit], y: &[Lit], g: EqInput)
+    requires factors_ready { FactorsReady x.now y.now set.old }
+    requires columns_ready { ColumnsReady (gather (map weighted_of ts.now.list.now) []) g }
+    ensures { AddedRule set.old (multiply_then (multiplier (map num x.now) (map num y.now) [] set.old.vars) (eq_adder (gather (map weighted_of ts.now.list.now) []) g.x g.y g.vars)) set.new }
 {
     let first = set.vars;
-    let cols = gather(ts, 12);
+    let cols = ts.gather();
     set.vars = g.vars;
     let carry = order_carries(set, cols.first_counts(g.width), g.x, g.y);
     let last = set.vars;
@@ -129,6 +128,10 @@ fn product_with_offsets(set: &mut ClauseSet<'_>, x: &LogEncoding, y: &LogEncodin
     let ys = setting_bits(y);
     let xy = product_bits(xs.len, ys.len, set.vars);
     let ts = offset_terms(x, y, m, xy.bits);
+    let ts = Terms {
+        list: &ts,
+        steps: 12,
+    };
     let k = mul_constant(x.offset, y.offset, m.offset);
     let g = eq_input(&ts, k, xy.vars);
     if g.width == 0 {
@@ -190,8 +193,12 @@ fn offsets_height(x: &LogEncoding, y: &LogEncoding, m: &LogEncoding) -> u32
     let own = multiplier_height(xs.len, ys.len, 0);
     let xy = product_bits(xs.len, ys.len, 0);
     let ts = offset_terms(x, y, m, xy.bits);
+    let ts = Terms {
+        list: &ts,
+        steps: 12,
+    };
     let k = mul_constant(x.offset, y.offset, m.offset);
-    own.max(weighted_height(NormOp::Eq, &ts, 12, k))
+    own.max(weighted_height(NormOp::Eq, &ts, k))
 }
 
 // The greatest height of a column that a product of three records reaches.

@@ -21,7 +21,7 @@ ghost use Rattle.sat.specs.LitArray.{num};
 use arithmetic::magnitude;
 use clause_set::ClauseSet;
 use log_linear::Bits;
-use log_terms::Weighted;
+use log_terms::{Terms, Weighted};
 use log_var::LogEncoding;
 use log_weighted::{encode_weighted, weighted_height};
 use norm_csp::NormOp;
@@ -125,7 +125,11 @@ pub fn linear_height(encodings: &[LogEncoding; 32], op: NormOp, constant: i32, t
 {
     let ts = weighted_terms(encodings, terms);
     let k = offset_constant(encodings, constant, terms);
-    weighted_height(op, &ts[..terms.len() / 2], 8, k)
+    let ts = Terms {
+        list: &ts[..terms.len() / 2],
+        steps: 8,
+    };
+    weighted_height(op, &ts, k)
 }
 
 // The clauses of a sum over the settings' records, after `encode_linear_log` of log.rs: its columns fit.
@@ -143,5 +147,9 @@ pub fn encode_linear_log(
 {
     let ts = weighted_terms(encodings, terms);
     let k = offset_constant(encodings, constant, terms);
-    encode_weighted(set, op, &ts[..terms.len() / 2], 8, k);
+    let ts = Terms {
+        list: &ts[..terms.len() / 2],
+        steps: 8,
+    };
+    encode_weighted(set, op, &ts, k);
 }

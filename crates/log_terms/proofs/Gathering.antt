@@ -19,12 +19,12 @@ use Rattle.log_linear.specs.Added.{bits_of}
 use Rattle.sat.specs.LitArray.{num}
 use Rattle.log_gather.proofs.Pushing.{pushed_start}
 use Rattle.log_gather.proofs.Slices.{slice_below}
-use Rattle.log_gather.proofs.Steps.{shl_more, steps_enough, widths_enough, widths_most}
+use Rattle.log_gather.proofs.Steps.{steps_enough, widths_enough, widths_most}
 use Rattle.log_gather.proofs.Widths.{scaled_length}
 use Rattle.log_linear.proofs.Literals.{lits_long}
 use Rattle.log_terms.specs.Gathered.{Gathered}
 use Rattle.log_encoding.specs.Linear.{Weighted, push_scaled_some}
-use Rattle.log_terms.specs.Terms.{TermFits, TermsFit, no_term, some_width, weighted_of}
+use Rattle.log_terms.specs.Terms.{TermFits, no_term, some_width, weighted_of}
 use Rattle.log_terms.specs.declared.Weighted.{Weighted as WeightedLits}
 
 -- literals whose negations are small are small
@@ -112,18 +112,6 @@ pub empty_column : {c : Columns} → Arrays c → Holds c [] → Holds c ([] ∷
 empty_column {c} z h = (pushed_start c 1 z).holds [] h
 
 -- One term ------------------------------------------------------------------------------------------------------------
-
--- coefficients of fewer bits have at most twelve
-pub fit_twelve : {steps : ℕ} {ts : List WeightedLits} → TermsFit steps ts → TermsFit 12 ts
-fit_twelve {steps} f =
-    record {
-      few = f.few;
-      steps_fit = omega arith;
-      fits = λ i h.
-          let t = f.fits i h in
-          let m = shl_more steps 12 1 f.steps_fit in
-          record { len = t.len; long = t.long; coef = omega (arith, t.coef); reach = t.reach; small = t.small };
-    }
 
 -- how many literals a term has
 pub term_long : {steps : ℕ} (t : WeightedLits) → TermFits steps t → length (bits_of t.bits) ≡ t.bits.len

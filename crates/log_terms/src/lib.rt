@@ -22,18 +22,12 @@ pub struct Weighted {
     pub bits: Bits,
 }
 
-// Ne and Ge: the terms of one sign in columns.
-pub fn gather_sign(ts: &[Weighted], sign: bool, steps: usize) -> Columns
-    requires { TermsFit steps ts.now }
-    ensures { Gathered (gather_sign sign (map weighted_of ts.now) ([] ∷ [])) result }
-{
-    let mut cols = no_columns();
-    for t in ts {
-        if sign == t.negative {
-            push_scaled(&mut cols, t.bits.as_slice(), t.coef, 0, steps);
-        }
-    }
-    cols
+// The terms of a sum, within bounds: their coefficients have at most that many bits.
+#[derive(Clone, Copy)]
+pub struct Terms<'a> {
+    pub list: &'a [Weighted],
+    pub steps: usize,
+    ghost fits: { TermsFit steps list.now },
 }
 
 // How many columns there are after a term of that sign.
@@ -45,18 +39,6 @@ fn width_with_term(width: usize, t: &Weighted, sign: bool, steps: usize) -> usiz
         return width_after(width, t.bits.len, t.coef, steps);
     }
     width
-}
-
-// How many columns the terms of one sign have, at least one.
-pub fn width_of_sign(ts: &[Weighted], sign: bool, steps: usize) -> usize
-    requires { TermsFit steps ts.now }
-    ensures { (result ≡ length (gather_sign sign (map weighted_of ts.now) ([] ∷ []))) × (result ≤ 25) }
-{
-    let mut w: usize = 1;
-    for t in ts {
-        w = width_with_term(w, t, sign, steps);
-    }
-    w
 }
 
 // Eq: a term in columns, if it has bits; a negative one by its negated literals.
@@ -76,18 +58,6 @@ fn push_eq_term(cols: &mut Columns, t: &Weighted, steps: usize)
     }
 }
 
-// Eq: the terms in columns.
-pub fn gather(ts: &[Weighted], steps: usize) -> Columns
-    requires { TermsFit steps ts.now }
-    ensures { Gathered (gather (map weighted_of ts.now) []) result }
-{
-    let mut cols = no_columns();
-    for t in ts {
-        push_eq_term(&mut cols, t, steps);
-    }
-    cols
-}
-
 // Eq: how many columns there are after a term.
 fn width_with_eq_term(width: usize, t: &Weighted, steps: usize) -> usize
     requires { (steps ≤ 12) × (width ≤ 25) × TermFits steps t.now }
@@ -97,18 +67,6 @@ fn width_with_eq_term(width: usize, t: &Weighted, steps: usize) -> usize
         return width;
     }
     width_after(width, t.bits.len, t.coef, steps)
-}
-
-// Eq: how many columns the terms have.
-pub fn width_of(ts: &[Weighted], steps: usize) -> usize
-    requires { TermsFit steps ts.now }
-    ensures { (result ≡ length (gather (map weighted_of ts.now) [])) × (result ≤ 25) }
-{
-    let mut w: usize = 0;
-    for t in ts {
-        w = width_with_eq_term(w, t, steps);
-    }
-    w
 }
 
 // A number doubled so many times.
@@ -135,14 +93,61 @@ fn negated_term(t: &Weighted) -> u32
     }
 }
 
-// Eq: what the negated literals of all terms add too much.
-pub fn negated_constant(ts: &[Weighted]) -> u32
-    requires { TermsFit 12 ts.now }
-    ensures { (result ≡ negated_constant (map weighted_of ts.now)) × (result < 268435456) }
-{
-    let mut sum: u32 = 0;
-    for t in ts {
-        sum += negated_term(t);
+impl Terms<'_> {
+    // Ne and Ge: the terms of one sign in columns.
+    pub fn gather_sign(&self, sign: bool) -> Columns
+        ensures { Gathered (gather_sign sign (map weighted_of self.now.list.now) ([] ∷ [])) result }
+    {
+        let mut cols = no_columns();
+        for t in self.list {
+            if sign == t.negative {
+                push_scaled(&mut cols, t.bits.as_slice(), t.coef, 0, self.steps);
+            }
+        }
+        cols
     }
-    sum
+
+    // How many columns the terms of one sign have, at least one.
+    pub fn width_of_sign(&self, sign: bool) -> usize
+        ensures { (result ≡ length (gather_sign sign (map weighted_of self.now.list.now) ([] ∷ []))) × (result ≤ 25) }
+    {
+        let mut w: usize = 1;
+        for t in self.list {
+            w = width_with_term(w, t, sign, self.steps);
+        }
+        w
+    }
+
+    // Eq: the terms in columns.
+    pub fn gather(&self) -> Columns
+        ensures { Gathered (gather (map weighted_of self.now.list.now) []) result }
+    {
+        let mut cols = no_columns();
+        for t in self.list {
+            push_eq_term(&mut cols, t, self.steps);
+        }
+        cols
+    }
+
+    // Eq: how many columns the terms have.
+    pub fn width_of(&self) -> usize
+        ensures { (result ≡ length (gather (map weighted_of self.now.list.now) [])) × (result ≤ 25) }
+    {
+        let mut w: usize = 0;
+        for t in self.list {
+            w = width_with_eq_term(w, t, self.steps);
+        }
+        w
+    }
+
+    // Eq: what the negated literals of all terms add too much.
+    pub fn negated_constant(&self) -> u32
+        ensures { (result ≡ negated_constant (map weighted_of self.now.list.now)) × (result < 268435456) }
+    {
+        let mut sum: u32 = 0;
+        for t in self.list {
+            sum += negated_term(t);
+        }
+        sum
+    }
 }

@@ -13,7 +13,7 @@ ghost use Rattle.log_encoding.specs.AdderSize.{greatest_height, too_tall};
 ghost use Rattle.log_encoding.specs.EncodeLinearLog.{encode_weighted, eq_rule};
 ghost use Rattle.log_encoding.specs.Linear.{gather_sign, linear_compared, linear_eq, negated_constant, sign_adder};
 ghost use Rattle.log_encoding.specs.LinearSize.{linear_reached, sign_reached};
-ghost use Rattle.log_terms.specs.Terms.{TermsFit, shapes_all, weighted_of};
+ghost use Rattle.log_terms.specs.Terms.{shapes_all, weighted_of};
 ghost use Rattle.log_weighted.specs.Added.{SumAdded, SumsAdded};
 
 use arithmetic::bit_length;
@@ -21,45 +21,36 @@ use clause_set::ClauseSet;
 use log_adder::{greatest_height, log_encoding_adder};
 use log_adder2::{eq_greatest_height, log_encoding_adder2};
 use log_linear::{Bits, push_comparison};
-use log_terms::{Weighted, gather, gather_sign, negated_constant, width_of, width_of_sign};
+use log_terms::Terms;
 use norm_csp::NormOp;
 
 // How many columns the adder of one sign has, with a constant's bits.
-fn adder_width(ts: &[Weighted], sign: bool, steps: usize, constant: u32) -> usize
-    requires terms_fit { TermsFit steps ts.now }
-    requires constant_bound { constant < 33554432 }
-    ensures { (result ≡ max (length (gather_sign sign (map weighted_of ts.now) ([] ∷ []))) (bit_length constant)) × (result ≤ 25) }
+fn adder_width(ts: &Terms<'_>, sign: bool, constant: u32) -> usize
+    requires { constant < 33554432 }
+    ensures { (result ≡ max (length (gather_sign sign (map weighted_of ts.now.list.now) ([] ∷ []))) (bit_length constant)) × (result ≤ 25) }
 {
     let more = bit_length(constant) as usize;
-    width_of_sign(ts, sign, steps).max(more)
+    ts.width_of_sign(sign).max(more)
 }
 
 // The greatest height of a column that the adder of one sign reaches.
-fn sign_height(ts: &[Weighted], sign: bool, steps: usize, constant: u32) -> u32
-    requires terms_fit { TermsFit steps ts.now }
-    requires constant_bound { constant < 33554432 }
-    ensures { result ≡ greatest_height (sign_reached sign (shapes_all ts.now) constant) }
+fn sign_height(ts: &Terms<'_>, sign: bool, constant: u32) -> u32
+    requires { constant < 33554432 }
+    ensures { result ≡ greatest_height (sign_reached sign (shapes_all ts.now.list.now) constant) }
 {
-    let cols = gather_sign(ts, sign, steps);
-    let width = adder_width(ts, sign, steps, constant);
+    let cols = ts.gather_sign(sign);
+    let width = adder_width(ts, sign, constant);
     greatest_height(&cols.counts[..width], constant)
 }
 
 // The sum of the terms of one sign and a constant.
-fn sign_adder(
-    set: &mut ClauseSet<'_>,
-    ts: &[Weighted],
-    sign: bool,
-    steps: usize,
-    constant: u32,
-) -> Bits
-    requires terms_fit { TermsFit steps ts.now }
+fn sign_adder(set: &mut ClauseSet<'_>, ts: &Terms<'_>, sign: bool, constant: u32) -> Bits
     requires constant_bound { (constant < 33554432) × (set.old.vars ≤ 1048576) × Below (2 ^ 30 + 1) set.old }
-    requires constant_value { too_tall (sign_reached sign (shapes_all ts.now) constant) ≡ false }
-    ensures { SumAdded set.old (sign_adder sign (map weighted_of ts.now) constant set.old.vars) set.new result }
+    requires constant_value { too_tall (sign_reached sign (shapes_all ts.now.list.now) constant) ≡ false }
+    ensures { SumAdded set.old (sign_adder sign (map weighted_of ts.now.list.now) constant set.old.vars) set.new result }
 {
-    let cols = gather_sign(ts, sign, steps);
-    let width = adder_width(ts, sign, steps, constant);
+    let cols = ts.gather_sign(sign);
+    let width = adder_width(ts, sign, constant);
     log_encoding_adder(set, &cols, &[], width, constant)
 }
 
@@ -71,52 +62,41 @@ pub struct Sums {
 }
 
 // Ne and Ge: the positive part with the constant a, then the negative part with the constant b.
-fn both_sums(set: &mut ClauseSet<'_>, ts: &[Weighted], steps: usize, a: u32, b: u32) -> Sums
-    requires terms_fit { TermsFit steps ts.now }
+fn both_sums(set: &mut ClauseSet<'_>, ts: &Terms<'_>, a: u32, b: u32) -> Sums
     requires a_bound { (a < 33554432) × (b < 33554432) × (set.old.vars ≤ 1000000) × Below (2 ^ 24 + 1) set.old }
-    requires b_value { too_tall (sign_reached false (shapes_all ts.now) a ++ sign_reached true (shapes_all ts.now) b) ≡ false }
-    ensures { SumsAdded set.old (sign_adder false (map weighted_of ts.now) a set.old.vars) (sign_adder true (map weighted_of ts.now) b) set.new result }
+    requires b_value { too_tall (sign_reached false (shapes_all ts.now.list.now) a ++ sign_reached true (shapes_all ts.now.list.now) b) ≡ false }
+    ensures { SumsAdded set.old (sign_adder false (map weighted_of ts.now.list.now) a set.old.vars) (sign_adder true (map weighted_of ts.now.list.now) b) set.new result }
 {
-    let positive = sign_adder(set, ts, false, steps, a);
-    let negative = sign_adder(set, ts, true, steps, b);
+    let positive = sign_adder(set, ts, false, a);
+    let negative = sign_adder(set, ts, true, b);
     Sums { positive, negative }
 }
 
 // Ne or Ge of terms with the constant a - b.
-fn weighted_comparison(
-    set: &mut ClauseSet<'_>,
-    is_ne: bool,
-    ts: &[Weighted],
-    steps: usize,
-    a: u32,
-    b: u32,
-)
-    requires terms_fit { TermsFit steps ts.now }
+fn weighted_comparison(set: &mut ClauseSet<'_>, is_ne: bool, ts: &Terms<'_>, a: u32, b: u32)
     requires a_bound { (a < 33554432) × (b < 33554432) × (set.old.vars ≤ 1000000) × Below (2 ^ 24 + 1) set.old }
-    requires b_value { too_tall (sign_reached false (shapes_all ts.now) a ++ sign_reached true (shapes_all ts.now) b) ≡ false }
-    ensures { AddedRule set.old (linear_compared is_ne (map weighted_of ts.now) a b set.old.vars) set.new }
+    requires b_value { too_tall (sign_reached false (shapes_all ts.now.list.now) a ++ sign_reached true (shapes_all ts.now.list.now) b) ≡ false }
+    ensures { AddedRule set.old (linear_compared is_ne (map weighted_of ts.now.list.now) a b set.old.vars) set.new }
 {
-    let s = both_sums(set, ts, steps, a, b);
+    let s = both_sums(set, ts, a, b);
     push_comparison(set, is_ne, s.positive.as_slice(), s.negative.as_slice());
 }
 
 // Eq: what the columns and the constant a have to reach, with the constant b.
-pub fn eq_target(ts: &[Weighted], b: u32) -> u32
-    requires terms_fit { TermsFit 12 ts.now }
-    requires b_bound { b < 33554432 }
-    ensures { (result ≡ b + negated_constant (map weighted_of ts.now)) × (result ≤ 301989888) }
+pub fn eq_target(ts: &Terms<'_>, b: u32) -> u32
+    requires { b < 33554432 }
+    ensures { (result ≡ b + negated_constant (map weighted_of ts.now.list.now)) × (result ≤ 301989888) }
 {
-    b + negated_constant(ts)
+    b + ts.negated_constant()
 }
 
 // The greatest height of a column that Eq reaches.
-fn eq_height(ts: &[Weighted], steps: usize, a: u32, b: u32) -> u32
-    requires terms_fit { TermsFit steps ts.now }
-    requires a_bound { (a < 33554432) × (b < 33554432) }
-    ensures { result ≡ greatest_height (linear_reached eq (shapes_all ts.now) a b) }
+fn eq_height(ts: &Terms<'_>, a: u32, b: u32) -> u32
+    requires { (a < 33554432) × (b < 33554432) }
+    ensures { result ≡ greatest_height (linear_reached eq (shapes_all ts.now.list.now) a b) }
 {
-    let cols = gather(ts, steps);
-    let width = width_of(ts, steps);
+    let cols = ts.gather();
+    let width = ts.width_of();
     let target = eq_target(ts, b);
     eq_greatest_height(
         &cols.counts[..width],
@@ -136,59 +116,50 @@ pub fn eq_constants(set: &mut ClauseSet<'_>, x: u32, y: u32)
 }
 
 // Eq of terms with the constant a - b.
-fn weighted_eq(set: &mut ClauseSet<'_>, ts: &[Weighted], steps: usize, a: u32, b: u32)
-    requires terms_fit { TermsFit steps ts.now }
+fn weighted_eq(set: &mut ClauseSet<'_>, ts: &Terms<'_>, a: u32, b: u32)
     requires a_bound { (a < 33554432) × (b < 33554432) × (set.old.vars ≤ 1048576) × Below (2 ^ 30 + 1) set.old }
-    requires b_value { too_tall (linear_reached eq (shapes_all ts.now) a b) ≡ false }
-    ensures { AddedRule set.old (eq_rule (linear_eq (map weighted_of ts.now) a b set.old.vars)) set.new }
+    requires b_value { too_tall (linear_reached eq (shapes_all ts.now.list.now) a b) ≡ false }
+    ensures { AddedRule set.old (eq_rule (linear_eq (map weighted_of ts.now.list.now) a b set.old.vars)) set.new }
 {
-    let width = width_of(ts, steps);
+    let width = ts.width_of();
     let target = eq_target(ts, b);
     let x = a.saturating_sub(target);
     let y = target.saturating_sub(a);
     if width == 0 {
         eq_constants(set, x, y);
     } else {
-        log_encoding_adder2(set, &gather(ts, steps), width, x, y);
+        log_encoding_adder2(set, &ts.gather(), width, x, y);
     }
 }
 
-// The greatest height of a column that a sum of terms reaches. Operation 0 is Eq, 1 Ne, 2 Ge.
-pub fn weighted_height(op: NormOp, ts: &[Weighted], steps: usize, constant: i32) -> u32
-    requires terms_fit { TermsFit steps ts.now }
-    requires constant_bound { (up constant < 33554432) × (down constant < 33554432) }
-    ensures { result ≡ greatest_height (linear_reached (normalized op) (shapes_all ts.now) (up constant) (down constant)) }
+// The greatest height of a column that a sum of terms reaches.
+pub fn weighted_height(op: NormOp, ts: &Terms<'_>, constant: i32) -> u32
+    requires { (up constant < 33554432) × (down constant < 33554432) }
+    ensures { result ≡ greatest_height (linear_reached (normalized op) (shapes_all ts.now.list.now) (up constant) (down constant)) }
 {
     let a = arithmetic::up(constant);
     let b = arithmetic::down(constant);
     match op {
-        NormOp::Eq => eq_height(ts, steps, a, b),
+        NormOp::Eq => eq_height(ts, a, b),
         NormOp::Ne | NormOp::Ge => {
-            let positive = sign_height(ts, false, steps, a);
-            let negative = sign_height(ts, true, steps, b);
+            let positive = sign_height(ts, false, a);
+            let negative = sign_height(ts, true, b);
             positive.max(negative)
         }
     }
 }
 
 // The clauses of a sum of terms, after `encode_linear_log_from_encodings` of log.rs: its columns fit.
-pub fn encode_weighted(
-    set: &mut ClauseSet<'_>,
-    op: NormOp,
-    ts: &[Weighted],
-    steps: usize,
-    constant: i32,
-)
-    requires terms_fit { TermsFit steps ts.now }
+pub fn encode_weighted(set: &mut ClauseSet<'_>, op: NormOp, ts: &Terms<'_>, constant: i32)
     requires constant_bound { (up constant < 33554432) × (down constant < 33554432) × (set.old.vars ≤ 1000000) × Below (2 ^ 24 + 1) set.old }
-    requires constant_value { too_tall (linear_reached (normalized op) (shapes_all ts.now) (up constant) (down constant)) ≡ false }
-    ensures { AddedRule set.old (encode_weighted (normalized op) (map weighted_of ts.now) constant set.old.vars) set.new }
+    requires constant_value { too_tall (linear_reached (normalized op) (shapes_all ts.now.list.now) (up constant) (down constant)) ≡ false }
+    ensures { AddedRule set.old (encode_weighted (normalized op) (map weighted_of ts.now.list.now) constant set.old.vars) set.new }
 {
     let a = arithmetic::up(constant);
     let b = arithmetic::down(constant);
     match op {
-        NormOp::Eq => weighted_eq(set, ts, steps, a, b),
-        NormOp::Ne => weighted_comparison(set, true, ts, steps, a, b),
-        NormOp::Ge => weighted_comparison(set, false, ts, steps, a, b),
+        NormOp::Eq => weighted_eq(set, ts, a, b),
+        NormOp::Ne => weighted_comparison(set, true, ts, a, b),
+        NormOp::Ge => weighted_comparison(set, false, ts, a, b),
     }
 }

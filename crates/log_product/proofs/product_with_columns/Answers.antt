@@ -22,7 +22,7 @@ order_carries-carry-requires-clause-y_value c =
 
 pub log_encoding_multiplier-requires : goal.log_encoding_multiplier-requires
 log_encoding_multiplier-requires c =
-    let f = c.requires.terms_fit.1 in
+    let f = c.requires.factors_ready in
     let o = first (goal.at.log_encoding_multiplier-requires c).After-order_carries-carry in
     let w = o.wrote c.gather-cols.result.lits c.gather-cols.ensures.arrays.wide in
     factors_ready f f.vars (omega (arith, f.below, o.lits, w.same_base)) (omega (arith, f.below, o.clauses))
@@ -35,7 +35,7 @@ push_returned_set-requires-clause-carry_value c = (first (goal.at.push_returned_
 
 pub push_returned_set-requires-clause-lits_bound : goal.push_returned_set-requires-clause-lits_bound
 push_returned_set-requires-clause-lits_bound c =
-    let f = c.requires.terms_fit.1 in
+    let f = c.requires.factors_ready in
     let o = first (goal.at.push_returned_set-requires-clause-lits_bound c).After-order_carries-carry in
     let w = o.wrote c.gather-cols.result.lits c.gather-cols.ensures.arrays.wide in
     let u = c.log_encoding_multiplier.ensures in

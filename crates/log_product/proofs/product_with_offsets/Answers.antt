@@ -78,9 +78,9 @@ product_without_columns-requires-clause-vars c =
     let z = goal.at.product_without_columns-requires-clause-vars c in
     c.eq_input-g.ensures.vars ∙ vars-are z.After-eq_input-g ∙ sym (ap (λ (o : EncodedBits). o.vars) (multiplied z.After-setting_bits-ys _ _ c.as_slice.ensures.0 c.as_slice-then-g-eq0.ensures.0))
 
-pub product_with_columns-requires-clause-terms_fit : goal.product_with_columns-requires-clause-terms_fit
-product_with_columns-requires-clause-terms_fit c =
-    (c.offset_terms-ts.ensures.1, factors (goal.at.product_with_columns-requires-clause-terms_fit c).After-setting_bits-ys _ _ c.as_slice-else-g-eq0.ensures.1 c.as_slice-else-g-eq0-2.ensures.1)
+pub product_with_columns-requires-clause-factors_ready : goal.product_with_columns-requires-clause-factors_ready
+product_with_columns-requires-clause-factors_ready c =
+    factors (goal.at.product_with_columns-requires-clause-factors_ready c).After-setting_bits-ys _ _ c.as_slice-else-g-eq0.ensures.1 c.as_slice-else-g-eq0-2.ensures.1
 
 pub product_with_columns-requires-clause-columns_ready : goal.product_with_columns-requires-clause-columns_ready
 product_with_columns-requires-clause-columns_ready c =

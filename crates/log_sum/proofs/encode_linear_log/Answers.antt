@@ -25,7 +25,7 @@ encode_weighted-requires c =
     let r = to_z-of_z w32 w.result (record { sfits = w.type_inv }) in
     let sum = offset_read c.args.encodings.now c.args.terms.now c.ranges.constant (record { sfits = w.type_inv }) w.ensures.0 in
     let fits = ap too_tall (reached_is c.args.encodings.now (normalized c.args.op) c.args.constant zs (take (length zs / 2) t.result) _ t.ensures.0 sum) ∙ c.requires.terms_value in
-    record { terms_fit = t.ensures.1; constant_bound = (rw r w.ensures.1, rw r w.ensures.2, omega (arith, p.2), p.3); constant_value = fits }
+    record { constant_bound = (rw r w.ensures.1, rw r w.ensures.2, omega (arith, p.2), p.3); constant_value = fits }
 
 pub returns : goal.returns
 returns c =

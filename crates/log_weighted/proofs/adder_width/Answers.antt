@@ -7,5 +7,5 @@ pub returns : goal.returns
 returns c =
     let w = c.width_of_sign.ensures in
     let b = c.bit_length-more.ensures in
-    let m = constant_wide c.args.constant c.requires.constant_bound in
+    let m = constant_wide c.args.constant c.requires in
     (rw (← w.0, ← b) c.max.ensures, omega (arith, c.max.ensures, w.1, b, m))

@@ -19,4 +19,4 @@ returns c =
     let g = c.gather_sign-cols in
     c.greatest_height.ensures
     ∙ ap (λ (cs : List ColumnShape). greatest_height (reached cs 0)) (shapes_taken g.result.counts w.result c.args.constant (omega (arith, w.ensures.1, g.ensures.arrays.places)))
-    ∙ ap greatest_height (sign_reaches c.args.sign (map weighted_of c.args.ts.now) g.ensures c.args.constant w.result c.requires.constant_bound w.ensures.0 w.ensures.1)
+    ∙ ap greatest_height (sign_reaches c.args.sign (map weighted_of c.args.ts.now.list.now) g.ensures c.args.constant w.result c.requires w.ensures.0 w.ensures.1)

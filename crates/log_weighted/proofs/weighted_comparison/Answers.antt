@@ -9,7 +9,7 @@ use Rattle.log_weighted.proofs.weighted_comparison.Goals as goal
 
 pub returns : goal.returns
 returns c =
-    let ws = map weighted_of c.args.ts.now in
+    let ws = map weighted_of c.args.ts.now.list.now in
     let test = comparison c.args.is_ne in
     let s = c.both_sums-s in
     let x = c.as_slice.ensures.0 in

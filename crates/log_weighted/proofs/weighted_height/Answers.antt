@@ -20,7 +20,7 @@ b-is c = c.down-b.ensures ∙ ap down (to_z-of_z w32 c.args.constant c.ranges.co
 
 pub returns-in-Ne : goal.returns-in-Ne
 returns-in-Ne c =
-    let h = shapes_all c.args.ts.now in
+    let h = shapes_all c.args.ts.now.list.now in
     let p = c.sign_height-positive.ensures ∙ ap (λ (x : ℕ). greatest_height (sign_reached false h x)) (a-is (goal.at.returns-in-Ne c).After-up-a) in
     let m = c.sign_height-negative.ensures ∙ ap (λ (x : ℕ). greatest_height (sign_reached true h x)) (b-is (goal.at.returns-in-Ne c).After-down-b) in
     c.max.ensures ∙ (λ i. max (p i) (m i)) ∙ higher_part h (up c.args.constant) (down c.args.constant) c.in-Ne.is

@@ -1,10 +1,10 @@
--- `log_terms::width_of` meets its contract.
+-- `log_terms::Terms::width_of` meets its contract.
 use mathlib.Core.List.{[], map}
 use Prim.Native.Nat.{◌≤◌}
 use Rattle.log_encoding.specs.Linear.{gather}
 use Rattle.log_terms.specs.Terms.{weighted_of}
 use Rattle.log_terms.proofs.Gathering.{WidthLeft}
-use Rattle.log_terms.proofs.width_of.Given as goal
+use Rattle.log_terms.proofs.Terms.width_of.Given as goal
 
 abbrev pub invariant-loop-t : goal.invariant-loop-t
-invariant-loop-t l = WidthLeft gather (map weighted_of l.ts) [] l.w l.t-index × (l.w ≤ 25)
+invariant-loop-t l = WidthLeft gather (map weighted_of l.self.list.now) [] l.w l.t-index × (l.w ≤ 25)
