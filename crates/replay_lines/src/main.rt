@@ -17,8 +17,8 @@ fn run_line<R: Print>(
 ) -> io::Result<()>
     requires { (8192 ≤ length lits.old) × (4096 ≤ length ends.old) }
 {
-    lits.fill(0);
-    ends.fill(0);
+    script_state::clear(lits);
+    script_state::clear(ends);
     let run = script::start().run;
     match script::finish(rt, Part { line, run }, nums, lits, ends) {
         Err(Stop::CannotWrite(error)) => Err(error),

@@ -50,8 +50,8 @@ fn run_stores(nums: &[i64], run: Run, lits: &mut [u32], ends: &mut [u32]) -> Opt
     }
     let l = length_at(nums, 0, lits.len())?;
     let e = length_at(nums, 1, ends.len())?;
-    lits.fill(0);
-    ends.fill(0);
+    script_state::clear(lits);
+    script_state::clear(ends);
     Some(Run {
         lits: l,
         ends: e,

@@ -1,8 +1,8 @@
-// What a script may put in place of what the calls left: the job that the integers of a line say. A job's integers are
+// What a script may put in place of what the calls left: the job that the integers of a line say, and stores of all 0. A job's integers are
 // its counts of switches, variables, clauses, literals and settings, then 32 records of 16.
 #![tactic(auto)]
 
-ghost use Rattle.std.specs.Prelude.{◌≡◌, ◌<◌};
+ghost use Rattle.std.specs.Prelude.{◌≡◌, ◌<◌, length, replicate};
 ghost use Rattle.script_state.specs.Job.{fits, is_job, job_of, lits_from, record_from, records_from, signed_place};
 
 use encoder_env::EncoderEnv;
@@ -93,4 +93,11 @@ pub fn job_of(nums: &[i64]) -> EncoderEnv
         count: number_at(nums, 4).unwrap_or(0),
         encodings: records(nums),
     }
+}
+
+// Every entry is 0.
+pub fn clear(store: &mut [u32])
+    ensures { store.new ≡ replicate (length store.old) 0 }
+{
+    store.fill(0);
 }
