@@ -1,4 +1,5 @@
 pub mod Adding
 pub mod Bytes
 pub mod ReadBack
+pub mod Tails
 pub mod Writing

@@ -3,6 +3,7 @@ use Rattle.std.specs.Prelude.{ℕ, ◌+◌, ◌*◌, ◌^◌, ◌≤◌, ◌<◌
 use Rattle.sat.specs.LitArray.{lit, num}
 use Rattle.sat.specs.declared.Lit.{Lit}
 use Rattle.mixed.specs.declared.LinearInfo.{LinearInfo}
+use Rattle.clause_set.specs.declared.Counts.{Counts}
 use Rattle.log_adder.specs.declared.VarRange.{VarRange}
 use Rattle.log_adder.specs.declared.ColumnInfo.{ColumnInfo}
 use Rattle.sat.specs.Clause.{Clauses}
@@ -48,3 +49,7 @@ pub record ColumnSized (c : ColumnInfo) : Type 0 where
 -- the clauses of a column
 abbrev pub column_clauses : ColumnInfo → Clauses
 column_clauses c = column (own_lits c) (range_lits c.carry) c.bit (range_lits c.next) c.result.0
+
+-- nothing is in use of a part of the stores
+abbrev pub none : Counts
+none = record { clauses = 0; lits = 0 }

@@ -3,15 +3,15 @@
 
 ghost use Rattle.std.specs.Prelude.{◌≡◌, [], false, ◌+◌, ◌^◌, ◌≤◌, ◌<◌, get_or, length, map, take};
 ghost use Rattle.sat.specs.LitArray.{num};
-ghost use Rattle.clause_set.specs.Stores.{Added, Below, Wrote};
-ghost use Rattle.mixed.specs.Infos.{AllSmall};
+ghost use Rattle.clause_set.specs.Stores.{Added, Below, Fits, Wrote, add_clauses, after, stores};
+ghost use Rattle.mixed.specs.Infos.{AllSmall, InTable, equated};
 ghost use Rattle.log_adder.specs.AdderState.{AdderAdded, AdderFits, ColumnAdded, ColumnReady, CountsLow, InBounds, adder_output, result_count, result_lit};
-ghost use Rattle.log_adder.specs.ColumnInfo.{ColumnSized, column_clauses, column_infos, lit_info, range_info};
+ghost use Rattle.log_adder.specs.ColumnInfo.{ColumnSized, column_clauses, column_infos, lit_info, none, range_info};
 ghost use Rattle.log_encoding.specs.AdderSize.{greatest_height, input_shapes, reached, too_tall};
 
-use clause_set::ClauseSet;
+use clause_set::{ClauseSet, Counts};
 use log_linear::Bits;
-use mixed::LinearInfo;
+use mixed::{LinearInfo, encode_linear_eq_mixed_from_info};
 use sat::{Lit, Var};
 
 // Consecutive variables.
@@ -73,6 +73,60 @@ pub fn infos(c: ColumnInfo<'_>) -> [LinearInfo; 15]
     ts
 }
 
+// Writes the clauses of a column's equation from the front of two parts of the stores; that of the literals begins at `base`.
+fn write_part(
+    lits: &mut [u32],
+    ends: &mut [u32],
+    base: u32,
+    ts: &[LinearInfo],
+    above: u64,
+    below: u64,
+    total: u64,
+) -> Counts
+    requires all_small { AllSmall ts.now }
+    requires in_table { (length ts.now ≤ 15) × (below + total < 2 ^ 64) × InTable ts.now }
+    requires fits { Fits base none (equated ts.now above below total) }
+    ensures { after lits.new ends.new result ≡ add_clauses base (equated ts.now above below total) (stores lits.old ends.old 0 0) }
+{
+    let mut set = ClauseSet {
+        lits,
+        ends,
+        base,
+        vars: 0,
+        used: Counts::default(),
+    };
+    encode_linear_eq_mixed_from_info(&mut set, ts, above, below, total);
+    set.used
+}
+
+// The clauses of a column's equation: the free tails of the stores are lent on to their writer, and come back.
+pub fn push_equation(set: &mut ClauseSet<'_>, ts: &[LinearInfo], above: u64, below: u64, total: u64)
+    requires all_small { AllSmall ts.now }
+    requires in_table { (length ts.now ≤ 15) × (below + total < 2 ^ 64) × InTable ts.now }
+    requires fits { Fits set.old.base set.old.used (equated ts.now above below total) }
+    ensures { Added set.old (equated ts.now above below total) set.new }
+{
+    let used = set.used;
+    let base = set.base + used.lits as u32;
+    let lits = &mut *set.lits;
+    let ends = &mut *set.ends;
+    let from = clause_set::within(used.lits, lits.len());
+    let at = clause_set::within(used.clauses, ends.len());
+    let wrote = write_part(
+        &mut lits[from..],
+        &mut ends[at..],
+        base,
+        ts,
+        above,
+        below,
+        total,
+    );
+    set.used = Counts {
+        clauses: used.clauses + wrote.clauses,
+        lits: used.lits + wrote.lits,
+    };
+}
+
 // The clauses of one column.
 pub fn push_column(set: &mut ClauseSet<'_>, c: ColumnInfo<'_>)
     requires column_sized { ColumnSized c }
@@ -83,7 +137,7 @@ pub fn push_column(set: &mut ClauseSet<'_>, c: ColumnInfo<'_>)
     let total = high + 2 * c.next.count as u64 + 1;
     let above = c.bit as u64 + high;
     let n = c.own.len() + 3;
-    mixed::encode_linear_eq_mixed_from_info(set, &infos(c)[..n], above, 0, total);
+    push_equation(set, &infos(c)[..n], above, 0, total);
 }
 
 // The columns of an adder: each one's own literals, of which the first twelve are stored, and how many they are.

@@ -13,7 +13,7 @@ ghost use Rattle.log_adder2.specs.EqState.{CarriesOrdered, EqColumnReady, EqFits
 ghost use Rattle.log_adder2.specs.declared.Column.TheVariants.{Carry, Dead};
 
 use clause_set::ClauseSet;
-use log_adder::{ColumnInfo, Columns, VarRange, infos};
+use log_adder::{ColumnInfo, Columns, VarRange, infos, push_equation};
 use sat::{Lit, Var};
 
 // A column answers with its carry, first variable and count, or with a dead end.
@@ -64,7 +64,7 @@ pub fn push_eq_column(set: &mut ClauseSet<'_>, c: ColumnInfo<'_>, x: u32, y: u32
     let total = high + 2 * c.next.count as u64;
     let above = x as u64 + high;
     let n = c.own.len() + 2;
-    mixed::encode_linear_eq_mixed_from_info(set, &infos(c)[..n], above, y as u64, total);
+    push_equation(set, &infos(c)[..n], above, y as u64, total);
 }
 
 // The greatest height of a column that the adder reaches; a dead end is the last that is reached.
@@ -202,16 +202,11 @@ pub fn push_returned_set(set: &mut ClauseSet<'_>, cols: &Columns, g: EqInput, ca
     ensures { Added set.old (returned_set (eq_output cols.now g).returned) set.new }
 {
     let last = cols.first_counts(g.width).len() - 1;
-    match carry {
-        Column::Carry(first, count) => add_eq_columns(
-            set,
-            cols,
-            last,
-            g,
-            VarRange { first, count },
-        ),
-        Column::Dead => set.push(&[]),
-    }
+    let Column::Carry(first, count) = carry else {
+        set.push(&[]);
+        return;
+    };
+    add_eq_columns(set, cols, last, g, VarRange { first, count });
 }
 
 // The adder of Eq: all its clauses, the ordering clauses first; a dead end writes the empty clause in place of the columns'.

@@ -18,12 +18,12 @@ long c = omega (arith, length-take c.args.g.width c.args.cols.now.counts, ap len
 fits : (c : After-first_counts) → tall_from c.args.cols.now.counts (suc (c.args.g.width - 1)) 0 c.args.g.x c.args.g.y 0 ≡ false
 fits c = let g = c.args.g in all_fit c.args.cols.now.counts g.width g.x g.y c.requires.eq_fits.some (long c) c.requires.y_value
 
-pub returns-in-Carry : goal.returns-in-Carry
-returns-in-Carry c =
+pub returns : goal.returns
+returns c =
     wrote_as c.add_eq_columns.ensures refl
-    (returned c.args.cols.now c.args.g c.requires.eq_fits (fits (goal.at.returns-in-Carry c).After-first_counts) _ (ap carry_of (sym c.in-Carry.is) ∙ c.requires.carry_value))
+    (returned c.args.cols.now c.args.g c.requires.eq_fits (fits (goal.at.returns c).After-first_counts) _ (ap carry_of (sym c.in-Carry.is) ∙ c.requires.carry_value))
 
-pub returns-in-Dead : goal.returns-in-Dead
-returns-in-Dead c =
+pub returns-in_default : goal.returns-in_default
+returns-in_default c =
     wrote_as c.push.ensures.added refl
-    (returned c.args.cols.now c.args.g c.requires.eq_fits (fits (goal.at.returns-in-Dead c).After-first_counts) _ (ap carry_of (sym c.in-Dead.is) ∙ c.requires.carry_value))
+    (returned c.args.cols.now c.args.g c.requires.eq_fits (fits (goal.at.returns-in_default c).After-first_counts) _ (ap carry_of (sym c.in_default.is) ∙ c.requires.carry_value))
