@@ -14,10 +14,12 @@ use std::io;
 fn height(word: Word, nums: &[i64], env: EncoderEnv, lits: usize, ends: usize) -> u32 {
     let mut terms = [0i32; 4096];
     let most = match word.text() {
-        Some(b"linear") => script_calls::sum_of(nums, &mut terms)
-            .map(|s| heights::sum_height(env, lits, ends, s.op, s.constant, s.terms)),
-        Some(b"mul") => script_calls::product_of(nums)
-            .map(|p| heights::product_height(env, lits, ends, p.x, p.y, p.m)),
+        Some(b"linear") => script_calls::sum_of(nums, &mut terms).map(|s| heights::sum_height(
+            env, lits, ends, s.op, s.constant, s.terms,
+        )),
+        Some(b"mul") => script_calls::product_of(nums).map(|p| heights::product_height(
+            env, lits, ends, p.x, p.y, p.m,
+        )),
         _ => None,
     };
     most.unwrap_or(0)
