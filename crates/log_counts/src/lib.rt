@@ -11,8 +11,7 @@ ghost use Rattle.log_counts.specs.Rules.{Rule};
 ghost use Rattle.log_counts.specs.declared.TermShape.{TermShape};
 ghost use Rattle.log_counts.specs.Growth.{Counted, Grown};
 
-// The numbers of a term. That they fit stays in the contracts (`ShapesFit`): as a ghost field each term of the specifications would carry a proof,
-// and the goals of the loops over them stayed open.
+// The numbers of a term.
 #[derive(Clone, Copy, Default)]
 pub struct TermShape {
     pub negative: bool,
@@ -92,50 +91,55 @@ impl ColumnCounts {
     }
 }
 
-// The terms that are chosen, in at least so many columns.
-fn counts_of<F: Fn(TermShape) -> bool>(ts: &[TermShape], width: usize, chosen: F) -> ColumnCounts
-    requires shapes_fit { ShapesFit ts.now }
-    requires width_bound { width ≤ 25 }
-    requires callable { F.IsAlwaysCallable chosen }
-    ensures { (rule : Rule) → ((t : TermShape) (b : Bool) → F.post chosen t b → b ≡ rule.test (term_shape t)) → CountsHold (rule.all (shapes_of ts.now) (replicate width 0)) result }
-{
-    let mut c = ColumnCounts::none(width);
-    for t in ts {
-        if chosen(*t) {
-            c = c.push_scaled(t.coef, t.bits);
+// The numbers of a sum's terms, within bounds.
+#[derive(Clone, Copy)]
+pub struct Shapes<'a> {
+    pub list: &'a [TermShape],
+    ghost fits: { ShapesFit list.now },
+}
+
+impl Shapes<'_> {
+    // The terms that are chosen, in at least so many columns.
+    fn counts_of<F: Fn(TermShape) -> bool>(&self, width: usize, chosen: F) -> ColumnCounts
+        requires width_bound { width ≤ 25 }
+        requires callable { F.IsAlwaysCallable chosen }
+        ensures { (rule : Rule) → ((t : TermShape) (b : Bool) → F.post chosen t b → b ≡ rule.test (term_shape t)) → CountsHold (rule.all (shapes_of self.now.list.now) (replicate width 0)) result }
+    {
+        let mut c = ColumnCounts::none(width);
+        for t in self.list {
+            if chosen(*t) {
+                c = c.push_scaled(t.coef, t.bits);
+            }
         }
+        c
     }
-    c
-}
 
-// Ne and Ge: the terms of one sign, in at least one column.
-pub fn sign_counts(ts: &[TermShape], sign: bool) -> ColumnCounts
-    requires { ShapesFit ts.now }
-    ensures { CountsHold (sign_counts sign (shapes_of ts.now) (0 ∷ [])) result }
-{
-    counts_of(ts, 1, |t| sign == t.negative)
-}
+    // Ne and Ge: the terms of one sign, in at least one column.
+    pub fn sign_counts(&self, sign: bool) -> ColumnCounts
+        ensures { CountsHold (sign_counts sign (shapes_of self.now.list.now) (0 ∷ [])) result }
+    {
+        self.counts_of(1, |t| sign == t.negative)
+    }
 
-// Eq: the terms that have bits.
-pub fn eq_counts(ts: &[TermShape]) -> ColumnCounts
-    requires { ShapesFit ts.now }
-    ensures { CountsHold (gather_counts (shapes_of ts.now) []) result }
-{
-    counts_of(ts, 0, |t| 0 < t.bits)
-}
+    // Eq: the terms that have bits.
+    pub fn eq_counts(&self) -> ColumnCounts
+        ensures { CountsHold (gather_counts (shapes_of self.now.list.now) []) result }
+    {
+        self.counts_of(0, |t| 0 < t.bits)
+    }
 
-// Eq: what the negated literals add too much.
-pub fn negated_bits(ts: &[TermShape]) -> u32
-    requires { ShapesFit ts.now }
-    ensures { (result ≡ negated_bits (shapes_of ts.now)) × (result < 268435456) }
-{
-    let mut sum: u32 = 0;
-    for t in ts {
-        if t.negative {
-            sum += t.all_bits();
+    // Eq: what the negated literals add too much.
+    pub fn negated_bits(&self) -> u32
+        ensures { (result ≡ negated_bits (shapes_of self.now.list.now)) × (result < 268435456) }
+    {
+        let mut sum: u32 = 0;
+        for t in self.list {
+            if t.negative {
+                sum += t.all_bits();
+            }
         }
+        sum
     }
-    sum
 }
 
 // The rows of a product of x bits by y bits, each a column further.

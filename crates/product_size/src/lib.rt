@@ -14,7 +14,7 @@ use adder_size::adder_size;
 use clause_set::Counts;
 use column_walk::plus;
 use log_adder::greatest_height;
-use log_counts::{TermShape, row_counts};
+use log_counts::{Shapes, TermShape, row_counts};
 use log_linear::RuleCounts;
 use log_product::{mul_constant, offsets_zero};
 use log_var::LogEncoding;
@@ -97,6 +97,7 @@ fn offsets_equation(
     ensures { OffsetsEquation (numbers_of x) (numbers_of y) (numbers_of m) result }
 {
     let ts = offset_shapes(x, y, m, bits);
+    let ts = Shapes { list: &ts };
     let k = mul_constant(x.offset, y.offset, m.offset);
     equation_size(&ts, arithmetic::up(k), arithmetic::down(k))
 }

@@ -16,7 +16,7 @@ ghost use Rattle.log_counts.specs.Counted.{ShapeFits, ShapesFit, shapes_of, term
 ghost use Rattle.terms_size.specs.Measured.{Measured};
 ghost use Rattle.sum_size.specs.Shapes.{ShapeReady, numbers_of, turned_size};
 
-use log_counts::TermShape;
+use log_counts::{Shapes, TermShape};
 use log_linear::RuleCounts;
 use log_sum::{coef_at, offset_constant, setting_at};
 use log_turned::turned;
@@ -81,7 +81,10 @@ fn linear_size(
 {
     let ts = term_shapes(encodings, terms);
     let k = offset_constant(encodings, constant, terms);
-    terms_size(op, &ts[..terms.len() / 2], k)
+    let ts = Shapes {
+        list: &ts[..terms.len() / 2],
+    };
+    terms_size(op, &ts, k)
 }
 
 // A sum of any operation; none where a column is above 12.

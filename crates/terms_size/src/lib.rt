@@ -7,7 +7,7 @@ ghost use Rattle.arithmetic.specs.Integers.{down, up};
 ghost use Rattle.norm_csp.specs.NormOp.{eq};
 ghost use Rattle.norm_csp.specs.Operations.{normalized};
 ghost use Rattle.log_encoding.specs.LinearSize.{linear_reached, linear_size, sign_reached};
-ghost use Rattle.log_counts.specs.Counted.{ShapesFit, shapes_of};
+ghost use Rattle.log_counts.specs.Counted.{shapes_of};
 ghost use Rattle.terms_size.specs.Measured.{ColumnsReach, Measured, compared_op, terms_size};
 
 use adder_size::adder_size;
@@ -16,7 +16,7 @@ use compare_size::compare_size;
 use eq_size::eq_size;
 use log_adder::greatest_height;
 use log_adder2::eq_greatest_height;
-use log_counts::{ColumnCounts, TermShape, eq_counts, negated_bits, sign_counts};
+use log_counts::{ColumnCounts, Shapes};
 use log_linear::RuleCounts;
 use norm_csp::NormOp;
 
@@ -36,22 +36,20 @@ fn adder_width(width: usize, constant: u32) -> usize
 }
 
 // Ne and Ge: the columns of the terms of one sign and a constant.
-fn sign_columns(ts: &[TermShape], sign: bool, constant: u32) -> Columns
-    requires shapes_fit { ShapesFit ts.now }
-    requires constant_bound { constant < 33554432 }
-    ensures { ColumnsReach (sign_reached sign (shapes_of ts.now) constant) constant result }
+fn sign_columns(ts: &Shapes<'_>, sign: bool, constant: u32) -> Columns
+    requires { constant < 33554432 }
+    ensures { ColumnsReach (sign_reached sign (shapes_of ts.now.list.now) constant) constant result }
 {
-    let mut counts = sign_counts(ts, sign);
+    let mut counts = ts.sign_counts(sign);
     counts.width = adder_width(counts.width, constant);
     let height = greatest_height(counts.columns(), constant);
     Columns { counts, height }
 }
 
 // Ne or Ge of terms with the constant a - b; none where a column is above 12.
-fn comparison_size(is_ne: bool, ts: &[TermShape], a: u32, b: u32) -> Option<RuleCounts>
-    requires shapes_fit { ShapesFit ts.now }
-    requires a_bound { (a < 33554432) × (b < 33554432) }
-    ensures { Measured 2 (sign_reached false (shapes_of ts.now) a ++ sign_reached true (shapes_of ts.now) b) (terms_size (compared_op is_ne) (shapes_of ts.now) a b) result }
+fn comparison_size(is_ne: bool, ts: &Shapes<'_>, a: u32, b: u32) -> Option<RuleCounts>
+    requires { (a < 33554432) × (b < 33554432) }
+    ensures { Measured 2 (sign_reached false (shapes_of ts.now.list.now) a ++ sign_reached true (shapes_of ts.now.list.now) b) (terms_size (compared_op is_ne) (shapes_of ts.now.list.now) a b) result }
 {
     let p = sign_columns(ts, false, a);
     let m = sign_columns(ts, true, b);
@@ -64,14 +62,13 @@ fn comparison_size(is_ne: bool, ts: &[TermShape], a: u32, b: u32) -> Option<Rule
 }
 
 // Eq of terms with the constant a - b; none where a column is above 12.
-pub fn equation_size(ts: &[TermShape], a: u32, b: u32) -> Option<RuleCounts>
-    requires shapes_fit { ShapesFit ts.now }
-    requires a_bound { (a < 33554432) × (b < 33554432) }
-    ensures { Measured 1 (linear_reached eq (shapes_of ts.now) a b) (terms_size eq (shapes_of ts.now) a b) result }
+pub fn equation_size(ts: &Shapes<'_>, a: u32, b: u32) -> Option<RuleCounts>
+    requires { (a < 33554432) × (b < 33554432) }
+    ensures { Measured 1 (linear_reached eq (shapes_of ts.now.list.now) a b) (terms_size eq (shapes_of ts.now.list.now) a b) result }
 {
-    let counts = eq_counts(ts);
+    let counts = ts.eq_counts();
     let columns = counts.columns();
-    let target = b + negated_bits(ts);
+    let target = b + ts.negated_bits();
     let x = a.saturating_sub(target);
     let y = target.saturating_sub(a);
     if eq_greatest_height(columns, x, y) <= 12 {
@@ -82,10 +79,9 @@ pub fn equation_size(ts: &[TermShape], a: u32, b: u32) -> Option<RuleCounts>
 }
 
 // A sum of terms with a constant.
-pub fn terms_size(op: NormOp, ts: &[TermShape], constant: i32) -> Option<RuleCounts>
-    requires shapes_fit { ShapesFit ts.now }
-    requires constant_bound { (up constant < 33554432) × (down constant < 33554432) }
-    ensures { Measured 2 (linear_reached (normalized op) (shapes_of ts.now) (up constant) (down constant)) (linear_size (normalized op) (shapes_of ts.now) constant) result }
+pub fn terms_size(op: NormOp, ts: &Shapes<'_>, constant: i32) -> Option<RuleCounts>
+    requires { (up constant < 33554432) × (down constant < 33554432) }
+    ensures { Measured 2 (linear_reached (normalized op) (shapes_of ts.now.list.now) (up constant) (down constant)) (linear_size (normalized op) (shapes_of ts.now.list.now) constant) result }
 {
     let a = arithmetic::up(constant);
     let b = arithmetic::down(constant);

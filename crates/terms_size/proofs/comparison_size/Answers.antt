@@ -17,10 +17,10 @@ use Rattle.terms_size.proofs.comparison_size.Goals.{After-max}
 
 -- the columns of either sign
 abbrev positive : After-max → List Reached
-positive c = sign_reached false (shapes_of c.args.ts.now) c.args.a
+positive c = sign_reached false (shapes_of c.args.ts.now.list.now) c.args.a
 
 abbrev negative : After-max → List Reached
-negative c = sign_reached true (shapes_of c.args.ts.now) c.args.b
+negative c = sign_reached true (shapes_of c.args.ts.now.list.now) c.args.b
 
 -- the higher part decides
 height-is : (c : After-max) → c.max.result ≡ greatest_height (positive c ++ negative c)
@@ -50,6 +50,6 @@ returns c =
     let y = c.adder_size-negative in
     let p = ap (λ (hs : List ℕ). reached_by hs c.args.a) c.columns.ensures ∙ c.sign_columns-p.ensures.reach in
     let n = ap (λ (hs : List ℕ). reached_by hs c.args.b) c.columns-2.ensures ∙ c.sign_columns-m.ensures.reach in
-    comparison_measured (shapes_of c.args.ts.now) c.args.a c.args.b x.result y.result c.compare_size.result
+    comparison_measured (shapes_of c.args.ts.now.list.now) c.args.a c.args.b x.result y.result c.compare_size.result
     (subst (λ (rs : List Reached). Counted rs x.result) p x.ensures) (subst (λ (rs : List Reached). Counted rs y.result) n y.ensures)
     c.args.is_ne (omega (arith, height-is (goal.at.returns c).After-max, c.if-max-gt12.false)) c.compare_size.ensures

@@ -13,7 +13,7 @@ pub returns : goal.returns
 returns c =
     let w = c.adder_width in
     let h = c.sign_counts-counts.ensures in
-    let r = constant_reached h c.args.constant w.result c.requires.constant_bound w.ensures.0 in
+    let r = constant_reached h c.args.constant w.result c.requires w.ensures.0 in
     let t = shapes_taken c.sign_counts-counts.result.counts w.result c.args.constant (omega (arith, w.ensures.1, h.long)) in
     let reach = ap (λ (cs : List ColumnShape). reached cs 0) t ∙ r in
     record {

@@ -1,4 +1,4 @@
--- `log_counts::counts_of` meets its contract.
+-- `log_counts::Shapes::counts_of` meets its contract.
 use mathlib.Core.List.{List}
 use mathlib.Core.Path.{◌∙◌, sym}
 use Prim.Native.Nat.{ℕ}
@@ -8,8 +8,8 @@ use Rattle.log_encoding.specs.AdderSize.{push_scaled_counts}
 use Rattle.log_counts.specs.Counted.{no_shape}
 use Rattle.log_counts.proofs.Growing.{counted_more, counted_same, grown_else, grown_where, none_counted}
 use Rattle.log_counts.proofs.Terms.{terms_end, terms_start, terms_turn}
-use Rattle.log_counts.proofs.counts_of.Goals as goal
-use Rattle.log_counts.proofs.counts_of.Goals.{then-chosen, else-chosen}
+use Rattle.log_counts.proofs.Shapes.counts_of.Goals as goal
+use Rattle.log_counts.proofs.Shapes.counts_of.Goals.{then-chosen, else-chosen}
 
 pub loop-t-init : goal.loop-t-init
 loop-t-init g c =
@@ -19,13 +19,13 @@ loop-t-init g c =
 pub push_scaled-c-requires : goal.push_scaled-c-requires
 push_scaled-c-requires g c =
     let l = c.loop-t in
-    ((c.requires.shapes_fit.fits l.t-index c.loop-t-test.true).reach, counted_same l.invariant.0 (omega (arith, c.requires.shapes_fit.few, c.loop-t-test.true)))
+    ((c.args.self.now.fits.fits l.t-index c.loop-t-test.true).reach, counted_same l.invariant.0 (omega (arith, c.args.self.now.fits.few, c.loop-t-test.true)))
 
 pub loop-t-preserved : goal.loop-t-preserved
 loop-t-preserved g c =
     let l = c.loop-t in
     let h = c.loop-t-test.true in
-    let t = get_or c.args.ts.now l.t-index no_shape in
+    let t = get_or c.args.self.now.list.now l.t-index no_shape in
     let f : List ℕ → List ℕ = push_scaled_counts 12 t.coef 0 t.bits in (
       elim c.if-chosen.branch [
         | then-chosen v ↦ rw v.c-is (counted_more l.invariant.0 v.push_scaled-c.ensures (omega arith))
@@ -44,4 +44,4 @@ pub returns : goal.returns
 returns g c =
     let l = c.loop-t in
     λ rule tells.
-    terms_end (l.invariant.1 rule tells) c.requires.shapes_fit.few c.loop-t-test.false (replicate c.args.width 0) (rw c.none-c.ensures (none_counted c.args.width c.requires.width_bound))
+    terms_end (l.invariant.1 rule tells) c.args.self.now.fits.few c.loop-t-test.false (replicate c.args.width 0) (rw c.none-c.ensures (none_counted c.args.width c.requires.width_bound))

@@ -1,11 +1,11 @@
--- `log_counts::negated_bits` meets its contract.
+-- `log_counts::Shapes::negated_bits` meets its contract.
 use mathlib.Core.Path.{◌≡◌}
 use Prim.Native.Nat.{◌+◌, ◌*◌, ◌≤◌}
 use lib.ListN.{drop}
 use Rattle.log_encoding.specs.LinearSize.{negated_bits}
 use Rattle.log_counts.specs.Counted.{shapes_of}
-use Rattle.log_counts.proofs.negated_bits.Given as goal
+use Rattle.log_counts.proofs.Shapes.negated_bits.Given as goal
 
 abbrev pub invariant-loop-t : goal.invariant-loop-t
 invariant-loop-t l =
-    (negated_bits (shapes_of l.ts) ≡ l.sum + negated_bits (drop l.t-index (shapes_of l.ts))) × (l.sum ≤ 33554432 * l.t-index)
+    (negated_bits (shapes_of l.self.list.now) ≡ l.sum + negated_bits (drop l.t-index (shapes_of l.self.list.now))) × (l.sum ≤ 33554432 * l.t-index)
