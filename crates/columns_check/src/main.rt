@@ -37,16 +37,6 @@ fn all_small(nums: &[i64]) -> bool {
 
 // One inequality ---------------------------------------------------------------------------------------------------------
 
-// Nothing is written yet.
-fn nothing() -> Counts
-    ensures { (result.clauses ≡ 0) × (result.lits ≡ 0) }
-{
-    Counts {
-        clauses: 0,
-        lits: 0,
-    }
-}
-
 // The term at `at`, of at most `left` literals, if it is within bounds.
 fn read_term(nums: &[i64], at: usize, left: u32) -> Option<LinearInfo>
     requires { (at < 1000) × (left ≤ 19) }
@@ -110,7 +100,7 @@ fn run_ge<R: Print>(rt: &R, nums: &[i64], lits: &mut [u32], ends: &mut [u32]) ->
         ends,
         base: 0,
         vars: 0,
-        used: nothing(),
+        used: Counts::default(),
     };
     mixed::encode_linear_ge_mixed_from_info(&mut set, &t.terms[..t.len], above, below);
     rt.write_all(b"ge")?;
@@ -206,7 +196,7 @@ fn run_adder<R: Print>(rt: &R, nums: &[i64], lits: &mut [u32], ends: &mut [u32])
         ends,
         base: 0,
         vars,
-        used: nothing(),
+        used: Counts::default(),
     };
     let bits = log_adder::log_encoding_adder(&mut set, &cols, first.as_slice(), width, constant);
     show_bits(rt, set.vars, bits.as_slice())?;
@@ -239,7 +229,7 @@ fn run_eq_adder<R: Print>(
         ends,
         base: 0,
         vars,
-        used: nothing(),
+        used: Counts::default(),
     };
     log_adder2::log_encoding_adder2(&mut set, &cols, width, x, y);
     rt.write_all(b"eq_adder")?;
