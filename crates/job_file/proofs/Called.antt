@@ -1,5 +1,5 @@
 -- What the code's calls come to: the call of each tag, on its contents.
-use Prim.Native.Nat.{◌*◌, ◌-◌, ◌/◌, ◌<◌, ◌≤◌, ℕ}
+use Prim.Native.Nat.{◌*◌, ◌-◌, ◌/◌, ◌<◌, ℕ}
 use native.Mathlib.Omega.{arith}
 use mathlib.Core.Path.{◌≡◌, refl, subst}
 use mathlib.Core.Bool.{false, true}
@@ -94,9 +94,5 @@ module _ (env : EncoderEnv) (lits ends s : List ℕ) where
   field_wrong_length index t p r = rw (p, r) (record { number = refl; job = tt; lits = refl; ends = refl })
 
 -- the terms behind operation and constant
-pub linear_terms : (s : List ℕ) (xs : List ℤ) → 5 ≤ length s
-    → take (2 * (length (take (length s - 5) (drop 5 s)) / 3)) xs ≡ terms (take (length s - 5) (drop 5 s))
-    → take (2 * ((length s - 5) / 3)) xs ≡ terms (drop 5 s)
-linear_terms s xs h e =
-    let w : take (length s - 5) (drop 5 s) ≡ drop 5 s = take_all (length s - 5) (drop 5 s) (rw length-drop (omega arith)) in
-    rw (w, length-drop 5 s) at e
+pub behind_five : (s : List ℕ) → take (length s - 5) (drop 5 s) ≡ drop 5 s
+behind_five s = take_all (length s - 5) (drop 5 s) (rw length-drop (omega arith))

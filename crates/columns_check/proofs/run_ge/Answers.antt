@@ -10,4 +10,4 @@ encode_linear_ge_mixed_from_info-requires-clause-in_table g c =
 
 pub encode_linear_ge_mixed_from_info-requires-clause-fits : goal.encode_linear_ge_mixed_from_info-requires-clause-fits
 encode_linear_ge_mixed_from_info-requires-clause-fits g c =
-    let t = c.in-Some in terms_fit t.t _ _ c.nothing.result c.nothing.ensures t.ensures
+    let t = c.in-Some in terms_fit t.t _ _ c.default.result c.default.ensures t.ensures

@@ -1,21 +1,21 @@
 -- `job_file::calls::linear` meets its contract.
-use Prim.Native.Nat.{◌*◌, ◌-◌, ◌/◌}
 use lib.Dec.{lit<}
 use lib.IntN.{pos}
-use lib.ListN.{length, replicate, take}
+use lib.ListN.{length-drop, replicate}
 use mathlib.Core.Path.{◌∙◌}
 use mir.Syntax.{w32}
 use mir.ValLaws.{to_z-of_z}
-use Rattle.job_file.proofs.Called.{linear_called, linear_many, linear_terms}
+use Rattle.job_file.proofs.Called.{behind_five, linear_called, linear_many}
 use Rattle.job_file.proofs.calls.linear.Goals as goal
 
-pub returns-then-n-gt12 : goal.returns-then-n-gt12
-returns-then-n-gt12 c =
+pub returns-in-Some : goal.returns-in-Some
+returns-in-Some c =
     let a = c.args in
-    linear_many a.env a.lits.now a.ends.now a.s.now (replicate 14 (pos 0)) c.from-op.ensures (to_z-of_z w32 _ (record { sfits = c.signed_long-constant.type_inv }) ∙ c.signed_long-constant.ensures) (lit< tt) c.if-n-gt12.true c.encode_linear.ensures
+    linear_called a.env a.lits.now a.ends.now a.s.now c.from-op.ensures (to_z-of_z w32 _ (record { sfits = c.signed_long-constant.type_inv }) ∙ c.signed_long-constant.ensures)
+    (rw (behind_five a.s.now) at c.in-Some.ensures.1) c.encode_linear.ensures
 
-pub returns : goal.returns
-returns c =
+pub returns-in-None : goal.returns-in-None
+returns-in-None c =
     let a = c.args in
-    let xs = c.terms.new.out in
-    linear_called a.env a.lits.now a.ends.now a.s.now {ts = take (2 * ((length a.s.now - 5) / 3)) xs} c.from-op.ensures (to_z-of_z w32 _ (record { sfits = c.signed_long-constant.type_inv }) ∙ c.signed_long-constant.ensures) (linear_terms a.s.now xs c.requires c.terms.ensures) c.encode_linear-2.ensures
+    linear_many a.env a.lits.now a.ends.now a.s.now (replicate 14 (pos 0)) c.from-op.ensures (to_z-of_z w32 _ (record { sfits = c.signed_long-constant.type_inv }) ∙ c.signed_long-constant.ensures) (lit< tt)
+    (rw (behind_five a.s.now, length-drop 5 a.s.now) at c.in-None.ensures) c.encode_linear-in-None.ensures

@@ -5,12 +5,12 @@ use lib.ListN.{replicate}
 use Rattle.job_file.proofs.Called.{list_called, list_many}
 use Rattle.job_file.proofs.calls.list.Goals as goal
 
-pub returns-then-n-gt64 : goal.returns-then-n-gt64
-returns-then-n-gt64 c =
+pub returns-in-Some : goal.returns-in-Some
+returns-in-Some c =
     let a = c.args in
-    list_many a.env a.lits.now a.ends.now a.s.now (replicate 65 (pos 0)) (lit< tt) c.if-n-gt64.true c.encode_list.ensures
+    list_called a.env a.lits.now a.ends.now a.s.now c.in-Some.ensures.1 c.encode_list.ensures
 
-pub returns : goal.returns
-returns c =
+pub returns-in-None : goal.returns-in-None
+returns-in-None c =
     let a = c.args in
-    list_called a.env a.lits.now a.ends.now a.s.now c.values.ensures c.encode_list-2.ensures
+    list_many a.env a.lits.now a.ends.now a.s.now (replicate 65 (pos 0)) (lit< tt) c.in-None.ensures c.encode_list-in-None.ensures
