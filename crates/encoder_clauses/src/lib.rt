@@ -6,7 +6,7 @@ ghost use Rattle.clause_set.specs.Bytes.{all_hold};
 ghost use Rattle.encoder_env.specs.WellFormed.{well_formed};
 ghost use Rattle.encoder_clauses.specs.Readable.{clauses_readable, clauses_written, lits_below, readable};
 
-use clause_set::evaluate;
+use clause_set::evaluate_part;
 use encoder_env::{EncoderEnv, well_formed};
 
 // Whether every literal of a clause is below a limit.
@@ -58,8 +58,7 @@ pub fn satisfies(env: EncoderEnv, lits: &[u32], ends: &[u32], assignment: &[u8])
     ensures { result ≡ all_hold assignment.now (clauses_written env lits.now ends.now) }
 {
     for k in 0..env.clauses as usize {
-        let clause = &lits[ends[k] as usize..ends[k + 1] as usize];
-        if !evaluate(clause, assignment) {
+        if !evaluate_part(lits, ends[k] as usize, ends[k + 1] as usize, assignment) {
             return false;
         }
     }

@@ -20,19 +20,14 @@ bounds-ends-k c = let w = (formed (goal.at.bounds-ends-k c).Start).0 in omega (a
 pub bounds-ends-k-in-loop-k : goal.bounds-ends-k-in-loop-k
 bounds-ends-k-in-loop-k c = let w = (formed (goal.at.bounds-ends-k-in-loop-k c).Start).0 in omega (arith, w.clauses_in)
 
-pub slice_bounds-clause-count : goal.slice_bounds-clause-count
-slice_bounds-clause-count c = (formed (goal.at.slice_bounds-clause-count c).Start).1.rising c.loop-k.k (omega arith)
-
-pub slice_bounds-clause-start : goal.slice_bounds-clause-start
-slice_bounds-clause-start c = (formed (goal.at.slice_bounds-clause-start c).Start).1.rising c.loop-k.k (omega arith)
-
-pub slice_bounds-clause-end : goal.slice_bounds-clause-end
-slice_bounds-clause-end c =
-    let f = formed (goal.at.slice_bounds-clause-end c).Start in
-    omega (arith, f.1.inside (c.loop-k.k + 1) (omega arith), f.0.literals_in)
+pub evaluate_part-requires : goal.evaluate_part-requires
+evaluate_part-requires c =
+    let f = formed (goal.at.evaluate_part-requires c).Start in
+    let r = f.1.rising c.loop-k.k (omega arith) in
+    (r, omega (arith, f.1.inside (c.loop-k.k + 1) (omega arith), f.0.literals_in))
 
 pub loop-k-preserved : goal.loop-k-preserved
 loop-k-preserved c =
     let l = c.loop-k in
-    let e = c.evaluate in
-    (omega arith, l.invariant.1 ∙ clause_passes c.args.assignment.now c.args.lits.now c.args.ends.now l.k c.args.env.clauses (omega arith) (sym e.ensures ∙ c.if-not-evaluate.false))
+    let e = c.evaluate_part in
+    (omega arith, l.invariant.1 ∙ clause_passes c.args.assignment.now c.args.lits.now c.args.ends.now l.k c.args.env.clauses (omega arith) (sym e.ensures ∙ c.if-not-evaluate_part.false))
