@@ -10,13 +10,18 @@ use lines::{Line, Word};
 use refusal::Refusal;
 use std::io;
 
+// The greatest height that a sum reaches.
+fn sum_height(nums: &[i64], env: EncoderEnv, lits: usize, ends: usize) -> Option<u32> {
+    let mut terms = [0i32; 4096];
+    let s = script_calls::sum_of(nums, &mut terms)?;
+    let most = heights::sum_height(env, lits, ends, s.op, s.constant, s.terms);
+    Some(most)
+}
+
 // The greatest height that the call of a line reaches on this job.
 fn height(word: Word, nums: &[i64], env: EncoderEnv, lits: usize, ends: usize) -> u32 {
-    let mut terms = [0i32; 4096];
     let most = match word.text() {
-        Some(b"linear") => script_calls::sum_of(nums, &mut terms).map(|s| heights::sum_height(
-            env, lits, ends, s.op, s.constant, s.terms,
-        )),
+        Some(b"linear") => sum_height(nums, env, lits, ends),
         Some(b"mul") => script_calls::product_of(nums).map(|p| heights::product_height(
             env, lits, ends, p.x, p.y, p.m,
         )),

@@ -18,7 +18,7 @@ fn print_next<R: io::Input + Print + Eprint>(
         streams::cannot_read(rt);
         return false;
     };
-    let size = job_print::print_job(&input[..n], out);
+    let size = job_print::print_job(input, n, out);
     if rt.write_all(&out[..size]).is_err() {
         streams::cannot_write(rt);
         return false;

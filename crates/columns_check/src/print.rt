@@ -5,10 +5,13 @@ use clause_set::{ClauseSet, entry};
 use std::io;
 use text::Writer;
 
-// A number behind a space.
+// A number behind a space, in one write.
 pub fn show_number<R: Print>(rt: &R, n: u32) -> io::Result<()> {
-    rt.write_all(b" ")?;
-    rt.print(n)
+    let mut out = [0u8; 12];
+    let mut w = Writer::new(&mut out);
+    w.put(b' ');
+    w.put_decimal(n);
+    rt.write_all(w.written())
 }
 
 // The literals of clause k: none where its ends do not lie in the store.
@@ -82,8 +85,7 @@ fn show_contents<R: Print>(rt: &R, set: &ClauseSet<'_>) -> io::Result<()> {
 // How many clauses and literals, then these, and a line feed.
 pub fn show_clauses<R: Print>(rt: &R, set: &ClauseSet<'_>) -> io::Result<()> {
     for n in [set.used.clauses, set.used.lits] {
-        rt.write_all(b" ")?;
-        rt.print(n)?;
+        show_number(rt, u32::try_from(n).unwrap_or(u32::MAX))?;
     }
     show_contents(rt, set)?;
     rt.write_all(b"\n")

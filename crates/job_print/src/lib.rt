@@ -16,12 +16,13 @@ pub fn print_file(bytes: &[u8], lits: &mut [u32], ends: &mut [u32], out: &mut [u
     }
 }
 
-// The same for a program's input, on the program's own stores. Every text fits.
-pub fn print_job(input: &[u8], out: &mut [u8]) -> usize
-    requires { 65551 ≤ length out.old }
-    ensures { (result ≤ length out.new) × (take result out.new ≡ program_print input.now) }
+// The same for the first n bytes of a program's input, on the program's own stores. The input is one byte longer than a job file may be, so
+// that one that is too long is seen, and every text fits.
+pub fn print_job(input: &[u8], n: usize, out: &mut [u8]) -> usize
+    requires { (8193 ≤ length input.now) × (n ≤ length input.now) × (65551 ≤ length out.old) }
+    ensures { (result ≤ length out.new) × (take result out.new ≡ program_print (take n input.now)) }
 {
     let mut lits = [0u32; 8192];
     let mut ends = [0u32; 4096];
-    print_file(input, &mut lits, &mut ends, out)
+    print_file(&input[..n], &mut lits, &mut ends, out)
 }

@@ -68,6 +68,15 @@ pub record Stands (t : List ℕ) (r : ℕ) (slice : List ℕ) : Type 0 where
   pub within : r ≤ length slice
   pub bytes : take r slice ≡ t
 
+-- The first n bytes of one buffer are the file, the first m of another the answer. Either is one byte longer than what it may hold, so
+-- that one too long is seen. Every text has room.
+pub record Buffers (file : List ℕ) (n : ℕ) (answer : List ℕ) (m : ℕ) (out : List ℕ) : Type 0 where
+  pub file_long : 8193 ≤ length file
+  pub file_read : n ≤ length file
+  pub answer_long : 1048577 ≤ length answer
+  pub answer_read : m ≤ length answer
+  pub room : 1440 ≤ length out
+
 -- what each case says of a file and an answer: its text stands in the slice; or the answer is too long, and the slice is as it was
 unfoldable pub Told : Result ℕ TooLong → List ℕ → List ℕ → List ℕ → List ℕ → Type 0
 Told (Ok r) file text out after = (length text ≤ 1048576) × Stands (program_values file text) r after

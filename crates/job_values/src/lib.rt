@@ -1,10 +1,10 @@
 // The values that a solver's answer gives to the settings and switches of a job file, as text.
 #![tactic(auto)]
 
-ghost use Rattle.std.specs.Prelude.{true, ◌≡◌, ◌≤◌, length};
+ghost use Rattle.std.specs.Prelude.{true, ◌≡◌, ◌≤◌, length, take};
 ghost use Rattle.encoder_env.specs.WellFormed.{well_formed};
 ghost use Rattle.text.specs.Bytes.{text, write};
-ghost use Rattle.job_values.specs.Values.{Stands, Told, accepted, answer_values, by_test, file_values, none_line, program_values};
+ghost use Rattle.job_values.specs.Values.{Buffers, Stands, Told, accepted, answer_values, by_test, file_values, none_line, program_values};
 
 use encoder_env::EncoderEnv;
 use solver_answer::Solution;
@@ -14,16 +14,22 @@ use text::Writer;
 #[derive(Clone, Copy, Debug, PartialEq, Eq)]
 pub struct TooLong;
 
-// Prints the values that a solver's answer gives to a job file at the start of `out`, and answers how many bytes they have. An answer that is
-// too long is told before the file is run.
-pub fn print_values(file: &[u8], answer: &[u8], out: &mut [u8]) -> Result<usize, TooLong>
-    requires { 1440 ≤ length out.old }
-    ensures { Told result file.now answer.now out.old out.new }
+// Prints the values that the first m bytes of `answer` give to the job file in the first n bytes of `file` at the start of `out`, and answers
+// how many bytes they have. An answer that is too long is told before the file is run.
+pub fn print_values(
+    file: &[u8],
+    n: usize,
+    answer: &[u8],
+    m: usize,
+    out: &mut [u8],
+) -> Result<usize, TooLong>
+    requires { Buffers file.now n answer.now m out.old }
+    ensures { Told result (take n file.now) (take m answer.now) out.old out.new }
 {
-    if 1048576 < answer.len() {
+    if 1048576 < m {
         return Err(TooLong);
     }
-    Ok(put_program_values(file, answer, out))
+    Ok(put_program_values(&file[..n], &answer[..m], out))
 }
 
 // The text on the program's own stores.
