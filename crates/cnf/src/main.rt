@@ -9,11 +9,11 @@ use std::io;
 fn run<R: io::Input + Print + Eprint>(rt: &R, input: &mut [u8], out: &mut [u8])
     requires { (8193 ≤ length input.old) × (65551 ≤ length out.old) }
 {
-    let mut input = [0u8; 8192]; let Ok(n) = streams::read_input(rt, &mut input) else {
+    let Ok(n) = streams::read_input(rt, input) else {
         streams::cannot_read(rt);
         return;
     };
-    let size = job_print::print_job(&input, n, out);
+    let size = job_print::print_job(input, n, out);
     if rt.write_all(&out[..size]).is_err() {
         streams::cannot_write(rt);
     }

@@ -19,7 +19,7 @@ fn linear(env: EncoderEnv, s: &[u8]) -> Result<Figures, Refusal>
     let constant = numbers::signed_long(s, 1);
     let mut room = [0i32; 12];
     match numbers::terms(&s[5..], &mut room) {
-        Some(terms) => linear_figures(env, op, constant, terms),
+        Some(n) => linear_figures(env, op, constant, &room[..n]),
         None => linear_figures(env, op, constant, &[0; 14]),
     }
 }

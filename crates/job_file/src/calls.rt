@@ -47,7 +47,7 @@ fn list(
 {
     let mut room = [0i32; 64];
     match numbers::values(s, &mut room) {
-        Some(values) => encoder::encode_list(env, lits, ends, values),
+        Some(n) => encoder::encode_list(env, lits, ends, &room[..n]),
         None => encoder::encode_list(env, lits, ends, &[0; 65]),
     }
 }
@@ -82,7 +82,7 @@ fn linear(
     let constant = numbers::signed_long(s, 1);
     let mut room = [0i32; 12];
     match numbers::terms(&s[5..], &mut room) {
-        Some(terms) => encode_linear(env, lits, ends, op, constant, terms),
+        Some(n) => encode_linear(env, lits, ends, op, constant, &room[..n]),
         None => encode_linear(env, lits, ends, op, constant, &[0; 14]),
     }
 }

@@ -1,8 +1,7 @@
 -- `job_fields::numbers::terms` meets its contract.
-use Prim.Native.Nat.{◌*◌, ◌+◌, ◌/◌, ◌≤◌}
+use Prim.Native.Nat.{◌*◌, ◌+◌, ◌/◌}
 use lib.ListN.{get_or, length}
-use mathlib.Core.Path.{◌≡◌, sym, ◌∙◌}
-use lib.Seq.{take_all}
+use mathlib.Core.Path.{◌≡◌}
 use mir.Syntax.{w32}
 use mir.Val.{SFits}
 use mir.ValLaws.{to_z-of_z, to_z_pos}
@@ -17,7 +16,6 @@ loop-i-preserved c =
     let h = c.loop-i-test.true in
     let p = rw (terms_more s l.i h) at l.invariant.1 in
     let z : SFits w32 c.signed_word.result = record { sfits = c.signed_word.type_inv } in
-    let m : length s / 3 * 2 ≤ length c.in_ok-part.part.now = omega (arith, c.in_ok-part.ensures.lookup.0.3) in
     let e : 2 * (l.i + 1) ≡ 2 * l.i + 1 + 1 = omega arith in
     let x = c.from.ensures in
     let n = to_z_pos w32 (get_or s (3 * l.i) 0) (omega (arith, c.type_inv.s (3 * l.i))) in
@@ -27,6 +25,6 @@ pub returns : goal.returns
 returns c =
     let s = c.args.s.now in
     let l = c.loop-i in
+    let e : l.i ≡ length s / 3 = omega (arith, l.invariant.0, c.loop-i-test.false) in
     let p = rw (terms_end s l.i c.loop-i-test.false) at l.invariant.1 in
-    let all : length l.part ≤ 2 * l.i = omega (arith, p.long, c.in_ok-part.ensures.lookup.0.3, c.loop-i-test.false) in
-    (c.in_ok-part.ensures.lookup.0.1, sym (take_all (2 * l.i) l.part all) ∙ putting_end p)
+    (omega (arith, p.long), rw e at (putting_end p))

@@ -1,8 +1,7 @@
 -- `job_fields::numbers::values` meets its contract.
-use Prim.Native.Nat.{◌≤◌}
+use Prim.Native.Nat.{◌/◌}
 use lib.ListN.{length}
-use mathlib.Core.Path.{sym, ◌∙◌}
-use lib.Seq.{take_all}
+use mathlib.Core.Path.{◌≡◌}
 use mir.Syntax.{w32}
 use mir.Val.{SFits}
 use mir.ValLaws.{to_z-of_z}
@@ -17,12 +16,12 @@ loop-i-preserved c =
     let h = c.loop-i-test.true in
     let p = rw (values_more s l.i h) at l.invariant.1 in
     let z : SFits w32 c.signed_word.result = record { sfits = c.signed_word.type_inv } in
-    (omega arith, rw (to_z-of_z w32 c.signed_word.result z, c.signed_word.ensures) (putting_more l.i _ (omega (arith, c.in_ok-part.ensures.lookup.0.3, h)) p))
+    (omega arith, rw (to_z-of_z w32 c.signed_word.result z, c.signed_word.ensures) (putting_more l.i _ (omega arith) p))
 
 pub returns : goal.returns
 returns c =
     let s = c.args.s.now in
     let l = c.loop-i in
+    let e : l.i ≡ length s / 2 = omega (arith, l.invariant.0, c.loop-i-test.false) in
     let p = rw (values_end s l.i c.loop-i-test.false) at l.invariant.1 in
-    let all : length l.part ≤ l.i = omega (arith, p.long, c.in_ok-part.ensures.lookup.0.3, c.loop-i-test.false) in
-    (c.in_ok-part.ensures.lookup.0.1, sym (take_all (l.i) l.part all) ∙ putting_end p)
+    (omega (arith, p.long), rw e at (putting_end p))

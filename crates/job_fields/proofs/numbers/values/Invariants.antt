@@ -6,4 +6,4 @@ use Rattle.job_fields.proofs.NumbersRead.{Putting}
 use Rattle.job_fields.proofs.numbers.values.Given as goal
 
 abbrev pub invariant-loop-i : goal.invariant-loop-i
-invariant-loop-i l = (l.i ≤ length l.s / 2) × Putting (values l.s) (length l.initial.part) l.i (values (drop (2 * l.i) l.s)) l.part
+invariant-loop-i l = (l.i ≤ length l.s / 2) × Putting (values l.s) (length l.initial.out) l.i (values (drop (2 * l.i) l.s)) l.out
