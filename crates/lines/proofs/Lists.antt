@@ -1,5 +1,5 @@
 -- Numbers of a line converted one after the other.
-use Rattle.std.proofs.Common.{ℕ, ◌+◌, ◌<◌, ◌≡◌, List, [], ◌∷◌, ◌++◌, ℤ, pos, length, get_or, set, take, Result, Ok, Err, arith, Option, Some}
+use Rattle.std.proofs.Common.{ℕ, ◌+◌, ◌<◌, ◌≤◌, ◌≡◌, List, [], ◌∷◌, ◌++◌, ℤ, pos, length, get_or, set, take, Result, Ok, Err, arith, Option, Some}
 use Rattle.std.proofs.lemmas.Option.{slice_get-get_or}
 use Rattle.std.specs.Result.{result_ok}
 use Rattle.std.proofs.lemmas.List.{take_more, take_more_set}
@@ -17,7 +17,7 @@ module _ {A E : Type 0} (gives : ℤ → Result A E → Type 0) where
   converted_last (w ∷ ws) [] z x a g = absurd a
   converted_last (w ∷ ws) (y ∷ ys) z x a g = (a.0, converted_last ws ys z x a.1 g)
 
-  pub converted_more : (zs : List ℤ) (xs : List A) (i : ℕ) (x : A) → length xs ≡ length zs → i < length zs → AllConverted gives (take i zs) (take i xs)
+  pub converted_more : (zs : List ℤ) (xs : List A) (i : ℕ) (x : A) → length zs ≤ length xs → i < length zs → AllConverted gives (take i zs) (take i xs)
       → gives (get_or zs i (pos 0)) (Ok x) → AllConverted gives (take (i + 1) zs) (take (i + 1) (set xs i x))
   converted_more zs xs i x e h a g =
       let k : i < length xs = omega (arith, e) in

@@ -1,5 +1,5 @@
 // The integers of a line, as the types that a call takes.
-ghost use Rattle.std.specs.Prelude.{length};
+ghost use Rattle.std.specs.Prelude.{◌≡◌, ◌≤◌, IfSome, length, take};
 ghost use Rattle.lines.specs.Fitting.{ListOf, NumberAt};
 
 // Number i of a line, if the line has it and it fits the type.
@@ -11,15 +11,18 @@ where
     T::try_from(*nums.get(i)?).ok()
 }
 
-// All of them at the start of `out`, if they fit the type and there is room.
-pub fn number_list<'a, T: TryFrom<i64> + Drop>(nums: &[i64], out: &'a mut [T]) -> Option<&'a [T]>
+// All of them put into the first entries of `out`, if they fit the type and there is room: how many they are.
+pub fn number_list<T: TryFrom<i64> + Drop>(nums: &[i64], out: &mut [T]) -> Option<usize>
 where
     T::Error: Drop,
-    ensures { ListOf T.try_from_gives (λ s. s.now) nums.now (length out.old) result }
+    ensures listed { ListOf T.try_from_gives (λ n. take n out.new) nums.now (length out.old) result }
+    ensures count { IfSome result (λ n. (n ≡ length nums.now) × (n ≤ length out.new)) }
 {
-    let part = out.get_mut(..nums.len())?;
-    for (i, z) in nums.iter().enumerate() {
-        part[i] = T::try_from(*z).ok()?;
+    if out.len() < nums.len() {
+        return None;
     }
-    Some(part)
+    for (i, z) in nums.iter().enumerate() {
+        out[i] = T::try_from(*z).ok()?;
+    }
+    Some(nums.len())
 }

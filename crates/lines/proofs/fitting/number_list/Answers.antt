@@ -12,6 +12,6 @@ pub loop-i-preserved : goal.loop-i-preserved
 loop-i-preserved g c =
     let l = c.loop-i in (
       search rules,
-      converted_more _ c.args.nums.now l.part l.i c.in_ok-part-2.field-0 l.invariant.0 c.loop-i-test.true l.invariant.1
-          (conversion g.T.TryFrom.try_from_gives _ _ c.try_from.result (to_z-of_z w64 (get_or c.args.nums.now l.i (pos 0)) (search rules)) c.try_from.ensures c.in_ok-part-2.ensures.value),
+      converted_more _ c.args.nums.now l.out l.i c.in_ok-out.field-0 l.invariant.0 c.loop-i-test.true l.invariant.1
+          (conversion g.T.TryFrom.try_from_gives _ _ c.try_from.result (to_z-of_z w64 (get_or c.args.nums.now l.i (pos 0)) (search rules)) c.try_from.ensures c.in_ok-out.ensures.value),
     )
