@@ -9,4 +9,5 @@ pub use encoder_mul::encode_mul;
 pub use encoder_read::{clause, get_int_value, open};
 pub use encoder_solution::{print_answer, read_answer};
 pub use encoder_var::{encode_binary, encode_list, encode_range};
+pub use refusal::Refusal;
 pub use solver_answer::Solution;
