@@ -32,7 +32,7 @@ fn height(word: Word, nums: &[i64], env: EncoderEnv, lits: usize, ends: usize) -
 
 // `STATUS HEIGHT`
 fn show<R: Print>(rt: &R, answer: Result<i32, Refusal>, height: u32) -> io::Result<()> {
-    rt.print(answer.map_or_else(|refusal| refusal.number(), |_| 0))?;
+    rt.print(script_calls::answer_told(answer).status)?;
     rt.write_all(b" ")?;
     rt.print(height)?;
     rt.write_all(b"\n")

@@ -2,6 +2,7 @@
 #![tactic(auto)]
 
 ghost use Rattle.std.specs.Prelude.{◌≡◌, ◌≤◌, IfSome};
+ghost use Rattle.refusal.specs.Number.{status};
 ghost use Rattle.encoder_figures.specs.Figures.{figured, linear_figures, mul_figures, size_figures};
 
 use encoder_env::EncoderEnv;
@@ -17,6 +18,20 @@ pub struct Figures {
     pub variables: u32,
     pub clauses: u32,
     pub literals: u32,
+}
+
+// The counts that an answer is told by: a refusal has none.
+pub fn counts_told(answer: Result<Figures, Refusal>) -> Figures
+    ensures { figured answer ≡ record { status = status answer; variables = result.variables; clauses = result.clauses; literals = result.literals } }
+{
+    match answer {
+        Ok(figures) => figures,
+        Err(_) => Figures {
+            variables: 0,
+            clauses: 0,
+            literals: 0,
+        },
+    }
 }
 
 // The figures of a rule whose arguments are right: 13 where a column is too tall.

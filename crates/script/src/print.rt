@@ -26,14 +26,11 @@ fn put_signed(w: &mut Writer, z: i32) {
 
 // The line of a call's answer, but for its line feed.
 pub fn answer<R: Print>(rt: &R, answer: Result<i32, Refusal>, env: EncoderEnv) -> io::Result<()> {
-    let (status, value) = match answer {
-        Ok(value) => (0, value),
-        Err(refusal) => (refusal.number(), 0),
-    };
+    let told = script_calls::answer_told(answer);
     let mut out = [0u8; 64];
     let mut w = Writer::new(&mut out);
-    w.put_decimal(status);
-    put_signed(&mut w, value);
+    w.put_decimal(told.status);
+    put_signed(&mut w, told.value);
     put_number(&mut w, env.variables);
     put_number(&mut w, env.clauses);
     put_number(&mut w, env.literals);

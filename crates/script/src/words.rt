@@ -121,11 +121,10 @@ fn sized<R: Print>(
     figures: Option<Result<Figures, Refusal>>,
     env: EncoderEnv,
 ) -> Result<(), Stop> {
-    let (answer, counts) = match figures.ok_or(Stop::BadLine)? {
-        Ok(f) => (Ok(0), [f.variables, f.clauses, f.literals]),
-        Err(refusal) => (Err(refusal), [0; 3]),
-    };
-    print::answer(rt, answer, env)?;
+    let figures = figures.ok_or(Stop::BadLine)?;
+    let told = encoder::counts_told(figures);
+    let counts = [told.variables, told.clauses, told.literals];
+    print::answer(rt, figures.map(|_| 0), env)?;
     rt.write_all(b" :")?;
     print::numbers(rt, &counts)?;
     rt.write_all(b"\n")?;

@@ -6,6 +6,11 @@ mod answers;
 mod figures;
 mod rules;
 
+ghost use Rattle.std.specs.Prelude.{◌≡◌, IfSome, OnErr};
+ghost use Rattle.encoder_env.specs.declared.EncoderEnv.{EncoderEnv};
+ghost use Rattle.encoder_answer.specs.Outcome.{Answers, adds, reads};
+ghost use Rattle.encoder_read.specs.Calls.{open_outcome};
+
 pub use answers::{Given, given_of};
 use encoder::{encode_linear, encode_mul};
 use encoder_env::EncoderEnv;
@@ -22,8 +27,31 @@ pub struct Called {
     pub answer: Result<i32, Refusal>,
 }
 
+// The number and the value that an answer is told by.
+#[derive(Clone, Copy)]
+pub struct Told {
+    pub status: u32,
+    pub value: i32,
+}
+
+// How an answer is told, whatever the job: a refusal by its number and the value 0.
+pub fn answer_told(answer: Result<i32, Refusal>) -> Told
+    ensures { (env : EncoderEnv) → reads env answer ≡ record { status = result.status; env = env; value = result.value } }
+{
+    match answer {
+        Ok(value) => Told { status: 0, value },
+        Err(refusal) => Told {
+            status: refusal.number(),
+            value: 0,
+        },
+    }
+}
+
 // A call that leaves a job: refused, it leaves the one given.
-fn left(given: EncoderEnv, job: Result<EncoderEnv, Refusal>) -> Called {
+fn left(given: EncoderEnv, job: Result<EncoderEnv, Refusal>) -> Called
+    ensures answer { reads result.env result.answer ≡ adds given job }
+    ensures refused { OnErr result.answer (result.env ≡ given) }
+{
     match job {
         Ok(env) => Called { env, answer: Ok(0) },
         Err(refusal) => Called {
@@ -33,17 +61,26 @@ fn left(given: EncoderEnv, job: Result<EncoderEnv, Refusal>) -> Called {
     }
 }
 
-// `open N`: refused, it leaves the job of all 0.
+// The call of `open`: refused, it leaves the job of all 0.
+fn open_call(switches: u32, lits: &mut [u32], ends: &mut [u32]) -> Called
+    ensures { Answers (open_outcome switches lits.old ends.old) (reads result.env result.answer) lits.new ends.new }
+{
+    let job = encoder::open(switches, lits, ends);
+    left(encoder_read::opened(0), job)
+}
+
+// `open N`
 fn open(nums: &[i64], lits: &mut [u32], ends: &mut [u32]) -> Option<Called> {
     if nums.len() != 1 {
         return None;
     }
-    let job = encoder::open(number_at(nums, 0)?, lits, ends);
-    Some(left(encoder_read::opened(0), job))
+    Some(open_call(number_at(nums, 0)?, lits, ends))
 }
 
 // `range LOW HIGH`
-fn range(nums: &[i64], env: EncoderEnv, lits: &mut [u32], ends: &mut [u32]) -> Option<Called> {
+fn range(nums: &[i64], env: EncoderEnv, lits: &mut [u32], ends: &mut [u32]) -> Option<Called>
+    ensures { IfSome result (λ c. OnErr c.answer (c.env ≡ env)) }
+{
     if nums.len() != 2 {
         return None;
     }
@@ -53,14 +90,18 @@ fn range(nums: &[i64], env: EncoderEnv, lits: &mut [u32], ends: &mut [u32]) -> O
 }
 
 // `list V..`
-fn list(nums: &[i64], env: EncoderEnv, lits: &mut [u32], ends: &mut [u32]) -> Option<Called> {
+fn list(nums: &[i64], env: EncoderEnv, lits: &mut [u32], ends: &mut [u32]) -> Option<Called>
+    ensures { IfSome result (λ c. OnErr c.answer (c.env ≡ env)) }
+{
     let mut values = [0i32; 4096];
     let values = number_list(nums, &mut values)?;
     Some(left(env, encoder::encode_list(env, lits, ends, values)))
 }
 
 // `binary C F T`
-fn binary(nums: &[i64], env: EncoderEnv, lits: &mut [u32], ends: &mut [u32]) -> Option<Called> {
+fn binary(nums: &[i64], env: EncoderEnv, lits: &mut [u32], ends: &mut [u32]) -> Option<Called>
+    ensures { IfSome result (λ c. OnErr c.answer (c.env ≡ env)) }
+{
     if nums.len() != 3 {
         return None;
     }
@@ -71,7 +112,9 @@ fn binary(nums: &[i64], env: EncoderEnv, lits: &mut [u32], ends: &mut [u32]) -> 
 }
 
 // `linear OP CONSTANT [SETTING COEFFICIENT]..`
-fn linear(nums: &[i64], env: EncoderEnv, lits: &mut [u32], ends: &mut [u32]) -> Option<Called> {
+fn linear(nums: &[i64], env: EncoderEnv, lits: &mut [u32], ends: &mut [u32]) -> Option<Called>
+    ensures { IfSome result (λ c. OnErr c.answer (c.env ≡ env)) }
+{
     let mut terms = [0i32; 4096];
     let s = sum_of(nums, &mut terms)?;
     let job = encode_linear(env, lits, ends, s.op, s.constant, s.terms);
@@ -79,13 +122,17 @@ fn linear(nums: &[i64], env: EncoderEnv, lits: &mut [u32], ends: &mut [u32]) -> 
 }
 
 // `mul X Y M`
-fn mul(nums: &[i64], env: EncoderEnv, lits: &mut [u32], ends: &mut [u32]) -> Option<Called> {
+fn mul(nums: &[i64], env: EncoderEnv, lits: &mut [u32], ends: &mut [u32]) -> Option<Called>
+    ensures { IfSome result (λ c. OnErr c.answer (c.env ≡ env)) }
+{
     let p = product_of(nums)?;
     Some(left(env, encode_mul(env, lits, ends, p.x, p.y, p.m)))
 }
 
 // `read SETTING BYTE..`
-pub fn read(nums: &[i64], env: EncoderEnv, lits: &[u32], ends: &[u32]) -> Option<Called> {
+pub fn read(nums: &[i64], env: EncoderEnv, lits: &[u32], ends: &[u32]) -> Option<Called>
+    ensures { IfSome result (λ c. c.env ≡ env) }
+{
     let mut bytes = [0u8; 65536];
     let x = number_at(nums, 0)?;
     let assignment = number_list(&nums[1..], &mut bytes)?;

@@ -11,7 +11,7 @@ ghost use Rattle.sumirewha.specs.Answers.{Answered, called, file_printed, file_r
 ghost use Rattle.sumirewha.specs.Encoded.{Encoded};
 
 use clause_set::put;
-use encoder::{Figures, Solution};
+use encoder::Solution;
 use job_file::JobAnswer;
 use refusal::Refusal;
 
@@ -143,11 +143,7 @@ pub extern "C" fn sumirewha_figures(
 {
     let run = job_file::run(bytes, lits, ends);
     let figures = job_figures::figures_behind(run, field);
-    let added = figures.unwrap_or(Figures {
-        variables: 0,
-        clauses: 0,
-        literals: 0,
-    });
+    let added = encoder::counts_told(figures);
     put(counts, 0, run.field);
     put(counts, 1, added.variables);
     put(counts, 2, added.clauses);
