@@ -94,8 +94,8 @@ fn list(nums: &[i64], env: EncoderEnv, lits: &mut [u32], ends: &mut [u32]) -> Op
     ensures { IfSome result (λ c. OnErr c.answer (c.env ≡ env)) }
 {
     let mut values = [0i32; 4096];
-    let values = number_list(nums, &mut values)?;
-    Some(left(env, encoder::encode_list(env, lits, ends, values)))
+    let n = number_list(nums, &mut values)?;
+    Some(left(env, encoder::encode_list(env, lits, ends, &values[..n])))
 }
 
 // `binary C F T`
@@ -135,8 +135,8 @@ pub fn read(nums: &[i64], env: EncoderEnv, lits: &[u32], ends: &[u32]) -> Option
 {
     let mut bytes = [0u8; 65536];
     let x = number_at(nums, 0)?;
-    let assignment = number_list(&nums[1..], &mut bytes)?;
-    let answer = encoder::get_int_value(env, lits, ends, x, assignment);
+    let n = number_list(&nums[1..], &mut bytes)?;
+    let answer = encoder::get_int_value(env, lits, ends, x, &bytes[..n]);
     Some(Called { env, answer })
 }
 

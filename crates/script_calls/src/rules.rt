@@ -1,4 +1,6 @@
 // The integers of a line that adds a rule.
+ghost use Rattle.std.specs.Prelude.{IfSome, length, ◌≤◌};
+
 use lines::{number_at, number_list};
 
 // A sum.
@@ -10,11 +12,16 @@ pub struct Sum<'a> {
 }
 
 // `linear OP CONSTANT [SETTING COEFFICIENT]..`: what follows the constant is one list, which may lack its last coefficient.
-pub fn sum_of<'a>(nums: &[i64], terms: &'a mut [i32]) -> Option<Sum<'a>> {
+pub fn sum_of<'a>(nums: &[i64], terms: &'a mut [i32]) -> Option<Sum<'a>>
+    ensures { IfSome result (λ s. length s.terms.now ≤ length terms.old) }
+{
+    let op = number_at(nums, 0)?;
+    let constant = number_at(nums, 1)?;
+    let n = number_list(nums.get(2..)?, terms)?;
     Some(Sum {
-        op: number_at(nums, 0)?,
-        constant: number_at(nums, 1)?,
-        terms: number_list(nums.get(2..)?, terms)?,
+        op,
+        constant,
+        terms: &terms[..n],
     })
 }
 
