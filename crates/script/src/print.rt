@@ -37,17 +37,20 @@ pub fn answer<R: Print>(rt: &R, answer: Result<i32, Refusal>, env: EncoderEnv) -
     rt.write_all(w.written())
 }
 
-// Entries of a store or bytes of a slice, each behind a space.
-pub fn numbers<R: Print, T: Copy + Into<u32>>(rt: &R, all: &[T]) -> io::Result<()> {
-    for part in all.chunks(256) {
-        let mut out = [0u8; 4096];
-        let mut w = Writer::new(&mut out);
-        for n in part {
-            put_number(&mut w, (*n).into());
+// What stands in front, and entries of a store or bytes of a slice, each behind a space. A piece is written where it has no room for
+// one more.
+pub fn numbers<R: Print, T: Copy + Into<u32>>(rt: &R, front: &[u8], all: &[T]) -> io::Result<()> {
+    let mut out = [0u8; 4096];
+    let mut w = Writer::new(&mut out);
+    w.put_bytes(front);
+    for n in all {
+        if w.at > 4080 {
+            rt.write_all(w.written())?;
+            w.at = 0;
         }
-        rt.write_all(w.written())?;
+        put_number(&mut w, (*n).into());
     }
-    Ok(())
+    rt.write_all(w.written())
 }
 
 // A record: its literals, length, low, high and offset.
@@ -66,7 +69,6 @@ fn encoding<R: Print>(rt: &R, e: LogEncoding) -> io::Result<()> {
 
 // `job ..`
 pub fn job<R: Print>(rt: &R, env: EncoderEnv) -> io::Result<()> {
-    rt.write_all(b"job")?;
     let counts = [
         env.switches,
         env.variables,
@@ -74,7 +76,7 @@ pub fn job<R: Print>(rt: &R, env: EncoderEnv) -> io::Result<()> {
         env.literals,
         env.count,
     ];
-    numbers(rt, &counts)?;
+    numbers(rt, b"job", &counts)?;
     for e in env.encodings {
         encoding(rt, e)?;
     }

@@ -35,8 +35,7 @@ fn clause<R: Print>(
     match encoder::clause(env, lits, ends, k) {
         Ok(part) => {
             print::answer(rt, Ok(0), env)?;
-            rt.write_all(b" :")?;
-            print::numbers(rt, part)?;
+            print::numbers(rt, b" :", part)?;
         }
         Err(refusal) => print::answer(rt, Err(refusal), env)?,
     }
@@ -61,8 +60,7 @@ fn lent<R: Print, F: FnOnce(&[u8], &mut [u8]) -> Result<i32, Refusal>>(
     let part = slice.get_mut(..given.len).ok_or(Stop::BadLine)?;
     let answer = call(given.bytes, part);
     print::answer(rt, answer, env)?;
-    rt.write_all(b" :")?;
-    print::numbers(rt, part)?;
+    print::numbers(rt, b" :", part)?;
     rt.write_all(b"\n")?;
     Ok(())
 }
@@ -99,10 +97,8 @@ fn show<R: Print>(
         return Err(Stop::BadLine);
     }
     print::job(rt, env)?;
-    rt.write_all(b"lits")?;
-    print::numbers(rt, lits)?;
-    rt.write_all(b"\nends")?;
-    print::numbers(rt, ends)?;
+    print::numbers(rt, b"lits", lits)?;
+    print::numbers(rt, b"\nends", ends)?;
     rt.write_all(b"\n")?;
     Ok(())
 }
@@ -125,8 +121,7 @@ fn sized<R: Print>(
     let told = encoder::counts_told(figures);
     let counts = [told.variables, told.clauses, told.literals];
     print::answer(rt, figures.map(|_| 0), env)?;
-    rt.write_all(b" :")?;
-    print::numbers(rt, &counts)?;
+    print::numbers(rt, b" :", &counts)?;
     rt.write_all(b"\n")?;
     Ok(())
 }
