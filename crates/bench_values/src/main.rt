@@ -11,6 +11,7 @@ use refusal::Refusal;
 use std::io;
 
 // The greatest height that a sum reaches.
+#[inline(never)]
 fn sum_height(nums: &[i64], env: EncoderEnv, lits: usize, ends: usize) -> Option<u32> {
     let mut terms = [0i32; 4096];
     let s = script_calls::sum_of(nums, &mut terms)?;

@@ -42,8 +42,9 @@ fn length_at(nums: &[i64], i: usize, most: usize) -> Option<usize>
 }
 
 // `stores L E`
-fn run_stores(nums: &[i64], run: Run, lits: &mut [u32], ends: &mut [u32]) -> Option<Run>
-    ensures { IfSome result (λ r. Lent r lits.new ends.new) }
+fn run_stores(nums: &[i64], run: &mut Run, lits: &mut [u32], ends: &mut [u32]) -> Option<()>
+    requires { Lent run.old lits.old ends.old }
+    ensures { Lent run.new lits.new ends.new }
 {
     if nums.len() != 2 {
         return None;
@@ -52,11 +53,9 @@ fn run_stores(nums: &[i64], run: Run, lits: &mut [u32], ends: &mut [u32]) -> Opt
     let e = length_at(nums, 1, ends.len())?;
     script_state::clear(lits);
     script_state::clear(ends);
-    Some(Run {
-        lits: l,
-        ends: e,
-        ..run
-    })
+    run.lits = l;
+    run.ends = e;
+    Some(())
 }
 
 // A line with this word and these integers.
@@ -64,19 +63,18 @@ fn answer<R: Print>(
     rt: &R,
     word: Word,
     nums: &[i64],
-    run: Run,
+    run: &mut Run,
     lits: &mut [u32],
     ends: &mut [u32],
-) -> Result<Run, Stop>
-    requires { Lent run lits.old ends.old }
-    ensures { IfOk result (λ r. Lent r lits.new ends.new) }
+) -> Result<(), Stop>
+    requires { Lent run.old lits.old ends.old }
+    ensures { Lent run.new lits.new ends.new }
 {
     if word.text() == Some(b"stores".as_slice()) {
         return run_stores(nums, run, lits, ends).ok_or(Stop::BadLine);
     }
     let lent = &mut lits[..run.lits];
-    let env = words::answer(rt, word, nums, run.env, lent, &mut ends[..run.ends])?;
-    Ok(Run { env, ..run })
+    words::answer(rt, word, nums, &mut run.env, lent, &mut ends[..run.ends])
 }
 
 // A line that ends here: it is answered, unless it is empty.
@@ -84,15 +82,15 @@ fn answer_line<R: Print>(
     rt: &R,
     line: Line,
     nums: &mut [i64],
-    run: Run,
+    run: &mut Run,
     lits: &mut [u32],
     ends: &mut [u32],
-) -> Result<Run, Stop>
-    requires { Lent run lits.old ends.old }
-    ensures { IfOk result (λ r. Lent r lits.new ends.new) }
+) -> Result<(), Stop>
+    requires { Lent run.old lits.old ends.old }
+    ensures { Lent run.new lits.new ends.new }
 {
     if lines::is_empty(line) {
-        return Ok(run);
+        return Ok(());
     }
     let whole = lines::line_whole(nums, line);
     let numbers = whole.numbers;
@@ -107,18 +105,17 @@ fn end_line<R: Print>(
     rt: &R,
     line: Line,
     nums: &mut [i64],
-    run: Run,
+    run: &mut Run,
     lits: &mut [u32],
     ends: &mut [u32],
-) -> Result<Run, Stop>
-    requires { Lent run lits.old ends.old }
-    ensures { IfOk result (λ r. Lent r lits.new ends.new) }
+) -> Result<(), Stop>
+    requires { Lent run.old lits.old ends.old }
+    ensures { Lent run.new lits.new ends.new }
 {
-    let number = run.number.saturating_add(1);
-    let counted = Run { number, ..run };
-    let answered = answer_line(rt, line, nums, counted, lits, ends);
+    run.number = run.number.saturating_add(1);
+    let answered = answer_line(rt, line, nums, run, lits, ends);
     if let Err(Stop::BadLine) = answered {
-        print::bad_line(rt, number)?;
+        print::bad_line(rt, run.number)?;
     }
     answered
 }
@@ -149,7 +146,7 @@ pub fn run_part<R: Print>(
         let fed = lines::feed(nums, line, s, at);
         line = fed.line;
         if fed.at < s.len() {
-            run = end_line(rt, line, nums, run, lits, ends)?;
+            end_line(rt, line, nums, &mut run, lits, ends)?;
             line = lines::line_start();
         }
         at = fed.next;
@@ -184,7 +181,8 @@ pub fn finish<R: Print>(
     requires { Lent part.run lits.old ends.old }
 {
     if !lines::is_empty(part.line) {
-        end_line(rt, part.line, nums, part.run, lits, ends)?;
+        let mut run = part.run;
+        end_line(rt, part.line, nums, &mut run, lits, ends)?;
     }
     Ok(())
 }

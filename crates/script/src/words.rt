@@ -46,6 +46,7 @@ fn clause<R: Print>(
 // `solution LEN BYTE..`, which reads a solver's answer, or `answer LEN BYTE..`, which prints an assignment: the call with these bytes and the
 // first LEN of a lent slice, which is printed as the call left it. Each byte lent is 7 before. The value of an assignment read is 1, of a print
 // its length.
+#[inline(never)]
 fn lent<R: Print, F: FnOnce(&[u8], &mut [u8]) -> Result<i32, Refusal>>(
     rt: &R,
     nums: &[i64],
@@ -63,6 +64,34 @@ fn lent<R: Print, F: FnOnce(&[u8], &mut [u8]) -> Result<i32, Refusal>>(
     print::numbers(rt, b" :", part)?;
     rt.write_all(b"\n")?;
     Ok(())
+}
+
+// `solution LEN BYTE..`
+fn solution<R: Print>(
+    rt: &R,
+    nums: &[i64],
+    env: EncoderEnv,
+    lits: &[u32],
+    ends: &[u32],
+) -> Result<(), Stop> {
+    lent(rt, nums, env, |text, slice| {
+        let solution = encoder::read_answer(env, lits, ends, text, slice)?;
+        Ok(i32::from(solution == Solution::Assignment))
+    })
+}
+
+// `answer LEN BYTE..`
+fn print_answer<R: Print>(
+    rt: &R,
+    nums: &[i64],
+    env: EncoderEnv,
+    lits: &[u32],
+    ends: &[u32],
+) -> Result<(), Stop> {
+    lent(rt, nums, env, |assignment, slice| {
+        let size = encoder::print_answer(env, lits, ends, assignment, slice)?;
+        Ok(i32::try_from(size).unwrap_or(i32::MAX))
+    })
 }
 
 // `job ..`
@@ -103,12 +132,17 @@ fn show<R: Print>(
     Ok(())
 }
 
-// The answer of a call is printed.
-fn printed<R: Print>(rt: &R, called: Option<Called>) -> Result<EncoderEnv, Stop> {
+// The answer of a call is printed, and its job goes on.
+fn printed<R: Print>(
+    rt: &R,
+    called: Option<Called>,
+    env: &mut EncoderEnv,
+) -> Result<(), Stop> {
     let called = called.ok_or(Stop::BadLine)?;
-    print::answer(rt, called.answer, called.env)?;
+    *env = called.env;
+    print::answer(rt, called.answer, *env)?;
     rt.write_all(b"\n")?;
-    Ok(called.env)
+    Ok(())
 }
 
 // The figures of a rule are printed behind a colon, 0 where it is refused.
@@ -126,33 +160,29 @@ fn sized<R: Print>(
     Ok(())
 }
 
-// Every word but `stores`: the job after the line.
+// Every word but `stores`.
 pub fn answer<R: Print>(
     rt: &R,
     word: Word,
     nums: &[i64],
-    env: EncoderEnv,
+    env: &mut EncoderEnv,
     lits: &mut [u32],
     ends: &mut [u32],
-) -> Result<EncoderEnv, Stop> {
+) -> Result<(), Stop> {
     match word.text() {
-        Some(b"read") => return printed(rt, script_calls::read(nums, env, lits, ends)),
-        Some(b"job") => return job(nums),
-        Some(b"clause") => clause(rt, nums, env, lits, ends)?,
-        Some(b"solution") => lent(rt, nums, env, |text, slice| {
-            let solution = encoder::read_answer(env, lits, ends, text, slice)?;
-            Ok(i32::from(solution == Solution::Assignment))
-        })?,
-        Some(b"answer") => lent(rt, nums, env, |assignment, slice| {
-            let size = encoder::print_answer(env, lits, ends, assignment, slice)?;
-            Ok(i32::try_from(size).unwrap_or(i32::MAX))
-        })?,
-        Some(b"size") => sized(rt, script_calls::size(nums, env), env)?,
-        Some(b"size_mul") => sized(rt, script_calls::size_mul(nums, env), env)?,
-        Some(b"lits") => entry(nums, lits).ok_or(Stop::BadLine)?,
-        Some(b"ends") => entry(nums, ends).ok_or(Stop::BadLine)?,
-        Some(b"show") => show(rt, nums, env, lits, ends)?,
-        _ => return printed(rt, script_calls::call(word, nums, env, lits, ends)),
+        Some(b"read") => printed(rt, script_calls::read(nums, *env, lits, ends), env),
+        Some(b"job") => {
+            *env = job(nums)?;
+            Ok(())
+        }
+        Some(b"clause") => clause(rt, nums, *env, lits, ends),
+        Some(b"solution") => solution(rt, nums, *env, lits, ends),
+        Some(b"answer") => print_answer(rt, nums, *env, lits, ends),
+        Some(b"size") => sized(rt, script_calls::size(nums, *env), *env),
+        Some(b"size_mul") => sized(rt, script_calls::size_mul(nums, *env), *env),
+        Some(b"lits") => entry(nums, lits).ok_or(Stop::BadLine),
+        Some(b"ends") => entry(nums, ends).ok_or(Stop::BadLine),
+        Some(b"show") => show(rt, nums, *env, lits, ends),
+        _ => printed(rt, script_calls::call(word, nums, *env, lits, ends), env),
     }
-    Ok(env)
 }

@@ -5,6 +5,7 @@ use encoder_env::EncoderEnv;
 use refusal::Refusal;
 
 // `size OP CONSTANT [SETTING COEFFICIENT]..`
+#[inline(never)]
 pub fn size(nums: &[i64], env: EncoderEnv) -> Option<Result<Figures, Refusal>> {
     let mut terms = [0i32; 4096];
     let s = rules::sum_of(nums, &mut terms)?;

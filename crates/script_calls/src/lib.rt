@@ -90,6 +90,7 @@ fn range(nums: &[i64], env: EncoderEnv, lits: &mut [u32], ends: &mut [u32]) -> O
 }
 
 // `list V..`
+#[inline(never)]
 fn list(nums: &[i64], env: EncoderEnv, lits: &mut [u32], ends: &mut [u32]) -> Option<Called>
     ensures { IfSome result (λ c. OnErr c.answer (c.env ≡ env)) }
 {
@@ -112,6 +113,7 @@ fn binary(nums: &[i64], env: EncoderEnv, lits: &mut [u32], ends: &mut [u32]) -> 
 }
 
 // `linear OP CONSTANT [SETTING COEFFICIENT]..`
+#[inline(never)]
 fn linear(nums: &[i64], env: EncoderEnv, lits: &mut [u32], ends: &mut [u32]) -> Option<Called>
     ensures { IfSome result (λ c. OnErr c.answer (c.env ≡ env)) }
 {
@@ -130,6 +132,7 @@ fn mul(nums: &[i64], env: EncoderEnv, lits: &mut [u32], ends: &mut [u32]) -> Opt
 }
 
 // `read SETTING BYTE..`
+#[inline(never)]
 pub fn read(nums: &[i64], env: EncoderEnv, lits: &[u32], ends: &[u32]) -> Option<Called>
     ensures { IfSome result (λ c. c.env ≡ env) }
 {
