@@ -57,11 +57,12 @@ fn answer<R: Print>(
         return Ok(are_lengths(nums).then_some(env));
     }
     let most = height(word, nums, env, lits.len(), ends.len());
-    let Some(called) = script_calls::call(word, nums, env, lits, ends) else {
+    let mut job = env;
+    let Some(answer) = script_calls::call(word, nums, &mut job, lits, ends) else {
         return Ok(None);
     };
-    show(rt, called.answer, most)?;
-    Ok(Some(called.env))
+    show(rt, answer, most)?;
+    Ok(Some(job))
 }
 
 // A line that ends here.

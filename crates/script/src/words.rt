@@ -4,7 +4,6 @@ use encoder::{Figures, Solution};
 use encoder_env::EncoderEnv;
 use lines::{Word, number_at};
 use refusal::Refusal;
-use script_calls::Called;
 use std::io;
 
 // Why a run ends before its script does.
@@ -132,15 +131,13 @@ fn show<R: Print>(
     Ok(())
 }
 
-// The answer of a call is printed, and its job goes on.
+// The answer of a call is printed, with the job after it.
 fn printed<R: Print>(
     rt: &R,
-    called: Option<Called>,
-    env: &mut EncoderEnv,
+    answer: Option<Result<i32, Refusal>>,
+    env: EncoderEnv,
 ) -> Result<(), Stop> {
-    let called = called.ok_or(Stop::BadLine)?;
-    *env = called.env;
-    print::answer(rt, called.answer, *env)?;
+    print::answer(rt, answer.ok_or(Stop::BadLine)?, env)?;
     rt.write_all(b"\n")?;
     Ok(())
 }
@@ -170,7 +167,7 @@ pub fn answer<R: Print>(
     ends: &mut [u32],
 ) -> Result<(), Stop> {
     match word.text() {
-        Some(b"read") => printed(rt, script_calls::read(nums, *env, lits, ends), env),
+        Some(b"read") => printed(rt, script_calls::read(nums, *env, lits, ends), *env),
         Some(b"job") => {
             *env = job(nums)?;
             Ok(())
@@ -183,6 +180,9 @@ pub fn answer<R: Print>(
         Some(b"lits") => entry(nums, lits).ok_or(Stop::BadLine),
         Some(b"ends") => entry(nums, ends).ok_or(Stop::BadLine),
         Some(b"show") => show(rt, nums, *env, lits, ends),
-        _ => printed(rt, script_calls::call(word, nums, *env, lits, ends), env),
+        _ => {
+            let answer = script_calls::call(word, nums, env, lits, ends);
+            printed(rt, answer, *env)
+        }
     }
 }

@@ -20,13 +20,6 @@ use refusal::Refusal;
 pub use rules::{Product, Sum, product_of, sum_of};
 use sat::Lit;
 
-// The job after a call, and the value that it answered.
-#[derive(Clone, Copy)]
-pub struct Called {
-    pub env: EncoderEnv,
-    pub answer: Result<i32, Refusal>,
-}
-
 // The number and the value that an answer is told by.
 #[derive(Clone, Copy)]
 pub struct Told {
@@ -48,60 +41,83 @@ pub fn answer_told(answer: Result<i32, Refusal>) -> Told
 }
 
 // A call that leaves a job: refused, it leaves the one given.
-fn left(given: EncoderEnv, job: Result<EncoderEnv, Refusal>) -> Called
-    ensures answer { reads result.env result.answer ≡ adds given job }
-    ensures refused { OnErr result.answer (result.env ≡ given) }
+fn left(env: &mut EncoderEnv, job: Result<EncoderEnv, Refusal>) -> Result<i32, Refusal>
+    ensures answer { reads env.new result ≡ adds env.old job }
+    ensures refused { OnErr result (env.new ≡ env.old) }
 {
-    match job {
-        Ok(env) => Called { env, answer: Ok(0) },
-        Err(refusal) => Called {
-            env: given,
-            answer: Err(refusal),
-        },
-    }
+    *env = job?;
+    Ok(0)
 }
 
 // The call of `open`: refused, it leaves the job of all 0.
-fn open_call(switches: u32, lits: &mut [u32], ends: &mut [u32]) -> Called
-    ensures { Answers (open_outcome switches lits.old ends.old) (reads result.env result.answer) lits.new ends.new }
+fn open_call(
+    switches: u32,
+    env: &mut EncoderEnv,
+    lits: &mut [u32],
+    ends: &mut [u32],
+) -> Result<i32, Refusal>
+    ensures { Answers (open_outcome switches lits.old ends.old) (reads env.new result) lits.new ends.new }
 {
     let job = encoder::open(switches, lits, ends);
-    left(encoder_read::opened(0), job)
+    *env = encoder_read::opened(0);
+    left(env, job)
 }
 
 // `open N`
-fn open(nums: &[i64], lits: &mut [u32], ends: &mut [u32]) -> Option<Called> {
+fn open(
+    nums: &[i64],
+    env: &mut EncoderEnv,
+    lits: &mut [u32],
+    ends: &mut [u32],
+) -> Option<Result<i32, Refusal>> {
     if nums.len() != 1 {
         return None;
     }
-    Some(open_call(number_at(nums, 0)?, lits, ends))
+    Some(open_call(number_at(nums, 0)?, env, lits, ends))
 }
 
 // `range LOW HIGH`
-fn range(nums: &[i64], env: EncoderEnv, lits: &mut [u32], ends: &mut [u32]) -> Option<Called>
-    ensures { IfSome result (λ c. OnErr c.answer (c.env ≡ env)) }
+fn range(
+    nums: &[i64],
+    env: &mut EncoderEnv,
+    lits: &mut [u32],
+    ends: &mut [u32],
+) -> Option<Result<i32, Refusal>>
+    ensures { IfSome result (λ r. OnErr r (env.new ≡ env.old)) }
 {
     if nums.len() != 2 {
         return None;
     }
     let low = number_at(nums, 0)?;
     let high = number_at(nums, 1)?;
-    Some(left(env, encoder::encode_range(env, lits, ends, low, high)))
+    let job = encoder::encode_range(*env, lits, ends, low, high);
+    Some(left(env, job))
 }
 
 // `list V..`
 #[inline(never)]
-fn list(nums: &[i64], env: EncoderEnv, lits: &mut [u32], ends: &mut [u32]) -> Option<Called>
-    ensures { IfSome result (λ c. OnErr c.answer (c.env ≡ env)) }
+fn list(
+    nums: &[i64],
+    env: &mut EncoderEnv,
+    lits: &mut [u32],
+    ends: &mut [u32],
+) -> Option<Result<i32, Refusal>>
+    ensures { IfSome result (λ r. OnErr r (env.new ≡ env.old)) }
 {
     let mut values = [0i32; 4096];
     let n = number_list(nums, &mut values)?;
-    Some(left(env, encoder::encode_list(env, lits, ends, &values[..n])))
+    let job = encoder::encode_list(*env, lits, ends, &values[..n]);
+    Some(left(env, job))
 }
 
 // `binary C F T`
-fn binary(nums: &[i64], env: EncoderEnv, lits: &mut [u32], ends: &mut [u32]) -> Option<Called>
-    ensures { IfSome result (λ c. OnErr c.answer (c.env ≡ env)) }
+fn binary(
+    nums: &[i64],
+    env: &mut EncoderEnv,
+    lits: &mut [u32],
+    ends: &mut [u32],
+) -> Option<Result<i32, Refusal>>
+    ensures { IfSome result (λ r. OnErr r (env.new ≡ env.old)) }
 {
     if nums.len() != 3 {
         return None;
@@ -109,50 +125,64 @@ fn binary(nums: &[i64], env: EncoderEnv, lits: &mut [u32], ends: &mut [u32]) -> 
     let c = Lit(number_at(nums, 0)?);
     let f = number_at(nums, 1)?;
     let t = number_at(nums, 2)?;
-    Some(left(env, encoder::encode_binary(env, lits, ends, c, f, t)))
+    let job = encoder::encode_binary(*env, lits, ends, c, f, t);
+    Some(left(env, job))
 }
 
 // `linear OP CONSTANT [SETTING COEFFICIENT]..`
 #[inline(never)]
-fn linear(nums: &[i64], env: EncoderEnv, lits: &mut [u32], ends: &mut [u32]) -> Option<Called>
-    ensures { IfSome result (λ c. OnErr c.answer (c.env ≡ env)) }
+fn linear(
+    nums: &[i64],
+    env: &mut EncoderEnv,
+    lits: &mut [u32],
+    ends: &mut [u32],
+) -> Option<Result<i32, Refusal>>
+    ensures { IfSome result (λ r. OnErr r (env.new ≡ env.old)) }
 {
     let mut terms = [0i32; 4096];
     let s = sum_of(nums, &mut terms)?;
-    let job = encode_linear(env, lits, ends, s.op, s.constant, s.terms);
+    let job = encode_linear(*env, lits, ends, s.op, s.constant, s.terms);
     Some(left(env, job))
 }
 
 // `mul X Y M`
-fn mul(nums: &[i64], env: EncoderEnv, lits: &mut [u32], ends: &mut [u32]) -> Option<Called>
-    ensures { IfSome result (λ c. OnErr c.answer (c.env ≡ env)) }
+fn mul(
+    nums: &[i64],
+    env: &mut EncoderEnv,
+    lits: &mut [u32],
+    ends: &mut [u32],
+) -> Option<Result<i32, Refusal>>
+    ensures { IfSome result (λ r. OnErr r (env.new ≡ env.old)) }
 {
     let p = product_of(nums)?;
-    Some(left(env, encode_mul(env, lits, ends, p.x, p.y, p.m)))
+    let job = encode_mul(*env, lits, ends, p.x, p.y, p.m);
+    Some(left(env, job))
 }
 
 // `read SETTING BYTE..`
 #[inline(never)]
-pub fn read(nums: &[i64], env: EncoderEnv, lits: &[u32], ends: &[u32]) -> Option<Called>
-    ensures { IfSome result (λ c. c.env ≡ env) }
-{
+pub fn read(
+    nums: &[i64],
+    env: EncoderEnv,
+    lits: &[u32],
+    ends: &[u32],
+) -> Option<Result<i32, Refusal>> {
     let mut bytes = [0u8; 65536];
     let x = number_at(nums, 0)?;
     let n = number_list(&nums[1..], &mut bytes)?;
-    let answer = encoder::get_int_value(env, lits, ends, x, &bytes[..n]);
-    Some(Called { env, answer })
+    Some(encoder::get_int_value(env, lits, ends, x, &bytes[..n]))
 }
 
-// A word that opens a job, or adds a setting or a rule.
+// A word that opens a job, or adds a setting or a rule: what it answers, and the job after it.
 pub fn call(
     word: Word,
     nums: &[i64],
-    env: EncoderEnv,
+    env: &mut EncoderEnv,
     lits: &mut [u32],
     ends: &mut [u32],
-) -> Option<Called> {
+) -> Option<Result<i32, Refusal>> {
     match word.text()? {
-        b"open" => open(nums, lits, ends),
+        b"open" => open(nums, env, lits, ends),
         b"range" => range(nums, env, lits, ends),
         b"list" => list(nums, env, lits, ends),
         b"binary" => binary(nums, env, lits, ends),
