@@ -25,7 +25,7 @@ fn put_signed(w: &mut Writer, z: i32) {
 }
 
 // The line of a call's answer, but for its line feed.
-pub fn answer<R: Print>(rt: &R, answer: Result<i32, Refusal>, env: EncoderEnv) -> io::Result<()> {
+pub fn answer<R: Print>(rt: &R, answer: Result<i32, Refusal>, env: &EncoderEnv) -> io::Result<()> {
     let told = script_calls::answer_told(answer);
     let mut out = [0u8; 64];
     let mut w = Writer::new(&mut out);
@@ -68,7 +68,7 @@ fn encoding<R: Print>(rt: &R, e: LogEncoding) -> io::Result<()> {
 }
 
 // `job ..`
-pub fn job<R: Print>(rt: &R, env: EncoderEnv) -> io::Result<()> {
+pub fn job<R: Print>(rt: &R, env: &EncoderEnv) -> io::Result<()> {
     let counts = [
         env.switches,
         env.variables,

@@ -20,10 +20,11 @@ impl From<io::Error> for Stop {
 }
 
 // `clause K`
+#[inline(never)]
 fn clause<R: Print>(
     rt: &R,
     nums: &[i64],
-    env: EncoderEnv,
+    env: &EncoderEnv,
     lits: &[u32],
     ends: &[u32],
 ) -> Result<(), Stop> {
@@ -31,7 +32,7 @@ fn clause<R: Print>(
         return Err(Stop::BadLine);
     }
     let k = number_at(nums, 0).ok_or(Stop::BadLine)?;
-    match encoder::clause(env, lits, ends, k) {
+    match encoder::clause(*env, lits, ends, k) {
         Ok(part) => {
             print::answer(rt, Ok(0), env)?;
             print::numbers(rt, b" :", part)?;
@@ -45,11 +46,10 @@ fn clause<R: Print>(
 // `solution LEN BYTE..`, which reads a solver's answer, or `answer LEN BYTE..`, which prints an assignment: the call with these bytes and the
 // first LEN of a lent slice, which is printed as the call left it. Each byte lent is 7 before. The value of an assignment read is 1, of a print
 // its length.
-#[inline(never)]
 fn lent<R: Print, F: FnOnce(&[u8], &mut [u8]) -> Result<i32, Refusal>>(
     rt: &R,
     nums: &[i64],
-    env: EncoderEnv,
+    env: &EncoderEnv,
     call: F,
 ) -> Result<(), Stop>
     requires { F.IsAlwaysCallable call }
@@ -66,40 +66,43 @@ fn lent<R: Print, F: FnOnce(&[u8], &mut [u8]) -> Result<i32, Refusal>>(
 }
 
 // `solution LEN BYTE..`
+#[inline(never)]
 fn solution<R: Print>(
     rt: &R,
     nums: &[i64],
-    env: EncoderEnv,
+    env: &EncoderEnv,
     lits: &[u32],
     ends: &[u32],
 ) -> Result<(), Stop> {
     lent(rt, nums, env, |text, slice| {
-        let solution = encoder::read_answer(env, lits, ends, text, slice)?;
+        let solution = encoder::read_answer(*env, lits, ends, text, slice)?;
         Ok(i32::from(solution == Solution::Assignment))
     })
 }
 
 // `answer LEN BYTE..`
+#[inline(never)]
 fn print_answer<R: Print>(
     rt: &R,
     nums: &[i64],
-    env: EncoderEnv,
+    env: &EncoderEnv,
     lits: &[u32],
     ends: &[u32],
 ) -> Result<(), Stop> {
     lent(rt, nums, env, |assignment, slice| {
-        let size = encoder::print_answer(env, lits, ends, assignment, slice)?;
+        let size = encoder::print_answer(*env, lits, ends, assignment, slice)?;
         Ok(i32::try_from(size).unwrap_or(i32::MAX))
     })
 }
 
 // `job ..`
-fn job(nums: &[i64]) -> Result<EncoderEnv, Stop> {
-    if script_state::is_job(nums) {
-        Ok(script_state::job_of(nums))
-    } else {
-        Err(Stop::BadLine)
+#[inline(never)]
+fn job(nums: &[i64], env: &mut EncoderEnv) -> Result<(), Stop> {
+    if !script_state::is_job(nums) {
+        return Err(Stop::BadLine);
     }
+    *env = script_state::job_of(nums);
+    Ok(())
 }
 
 // `lits I X`, `ends I X`
@@ -114,10 +117,11 @@ fn entry(nums: &[i64], store: &mut [u32]) -> Option<()> {
 }
 
 // `show`
+#[inline(never)]
 fn show<R: Print>(
     rt: &R,
     nums: &[i64],
-    env: EncoderEnv,
+    env: &EncoderEnv,
     lits: &[u32],
     ends: &[u32],
 ) -> Result<(), Stop> {
@@ -135,29 +139,53 @@ fn show<R: Print>(
 fn printed<R: Print>(
     rt: &R,
     answer: Option<Result<i32, Refusal>>,
-    env: EncoderEnv,
+    env: &EncoderEnv,
 ) -> Result<(), Stop> {
     print::answer(rt, answer.ok_or(Stop::BadLine)?, env)?;
     rt.write_all(b"\n")?;
     Ok(())
 }
 
+// `read SETTING BYTE..`
+#[inline(never)]
+fn read<R: Print>(
+    rt: &R,
+    nums: &[i64],
+    env: &EncoderEnv,
+    lits: &[u32],
+    ends: &[u32],
+) -> Result<(), Stop> {
+    printed(rt, script_calls::read(nums, *env, lits, ends), env)
+}
+
 // The figures of a rule are printed behind a colon, 0 where it is refused.
 fn sized<R: Print>(
     rt: &R,
     figures: Option<Result<Figures, Refusal>>,
-    env: EncoderEnv,
+    env: &EncoderEnv,
 ) -> Result<(), Stop> {
     let figures = figures.ok_or(Stop::BadLine)?;
-    let told = encoder::counts_told(figures);
-    let counts = [told.variables, told.clauses, told.literals];
+    let f = encoder::counts_told(figures);
+    let counts = [f.variables, f.clauses, f.literals];
     print::answer(rt, figures.map(|_| 0), env)?;
     print::numbers(rt, b" :", &counts)?;
     rt.write_all(b"\n")?;
     Ok(())
 }
 
-// Every word but `stores`.
+// `size ..`
+#[inline(never)]
+fn size<R: Print>(rt: &R, nums: &[i64], env: &EncoderEnv) -> Result<(), Stop> {
+    sized(rt, script_calls::size(nums, *env), env)
+}
+
+// `size_mul ..`
+#[inline(never)]
+fn size_mul<R: Print>(rt: &R, nums: &[i64], env: &EncoderEnv) -> Result<(), Stop> {
+    sized(rt, script_calls::size_mul(nums, *env), env)
+}
+
+// Every word but `stores`. What takes a job by value is a function of its own, so that a line pays for its own word alone.
 pub fn answer<R: Print>(
     rt: &R,
     word: Word,
@@ -167,22 +195,19 @@ pub fn answer<R: Print>(
     ends: &mut [u32],
 ) -> Result<(), Stop> {
     match word.text() {
-        Some(b"read") => printed(rt, script_calls::read(nums, *env, lits, ends), *env),
-        Some(b"job") => {
-            *env = job(nums)?;
-            Ok(())
-        }
-        Some(b"clause") => clause(rt, nums, *env, lits, ends),
-        Some(b"solution") => solution(rt, nums, *env, lits, ends),
-        Some(b"answer") => print_answer(rt, nums, *env, lits, ends),
-        Some(b"size") => sized(rt, script_calls::size(nums, *env), *env),
-        Some(b"size_mul") => sized(rt, script_calls::size_mul(nums, *env), *env),
+        Some(b"read") => read(rt, nums, env, lits, ends),
+        Some(b"job") => job(nums, env),
+        Some(b"clause") => clause(rt, nums, env, lits, ends),
+        Some(b"solution") => solution(rt, nums, env, lits, ends),
+        Some(b"answer") => print_answer(rt, nums, env, lits, ends),
+        Some(b"size") => size(rt, nums, env),
+        Some(b"size_mul") => size_mul(rt, nums, env),
         Some(b"lits") => entry(nums, lits).ok_or(Stop::BadLine),
         Some(b"ends") => entry(nums, ends).ok_or(Stop::BadLine),
-        Some(b"show") => show(rt, nums, *env, lits, ends),
+        Some(b"show") => show(rt, nums, env, lits, ends),
         _ => {
             let answer = script_calls::call(word, nums, env, lits, ends);
-            printed(rt, answer, *env)
+            printed(rt, answer, env)
         }
     }
 }

@@ -64,6 +64,7 @@ fn open_call(
 }
 
 // `open N`
+#[inline(never)]
 fn open(
     nums: &[i64],
     env: &mut EncoderEnv,
@@ -77,6 +78,7 @@ fn open(
 }
 
 // `range LOW HIGH`
+#[inline(never)]
 fn range(
     nums: &[i64],
     env: &mut EncoderEnv,
@@ -111,6 +113,7 @@ fn list(
 }
 
 // `binary C F T`
+#[inline(never)]
 fn binary(
     nums: &[i64],
     env: &mut EncoderEnv,
@@ -146,6 +149,7 @@ fn linear(
 }
 
 // `mul X Y M`
+#[inline(never)]
 fn mul(
     nums: &[i64],
     env: &mut EncoderEnv,
