@@ -117,17 +117,17 @@ impl State {
         here
     }
 
-    // One line.
-    fn after_line(self, l: &[u8], given: &mut [Option<bool>]) -> State
+    // One line. A comment changes nothing.
+    fn take_line(&mut self, l: &[u8], given: &mut [Option<bool>])
         requires { length given.old ≤ 65535 }
-        ensures { run result given.new ≡ after_line (length given.old) (run self given.old) l.now }
+        ensures { run self.new given.new ≡ after_line (length given.old) (run self.old given.old) l.now }
     {
         match line_of(l) {
-            Line::Comment => self,
-            Line::Verdict(true) => self.on_verdict(Phase::Satisfiable),
-            Line::Verdict(false) => self.on_verdict(Phase::Unsatisfiable),
-            Line::Values(numbers) => self.on_values(numbers, given),
-            Line::Broken => self.in_phase(Phase::Broken),
+            Line::Comment => {}
+            Line::Verdict(true) => *self = self.on_verdict(Phase::Satisfiable),
+            Line::Verdict(false) => *self = self.on_verdict(Phase::Unsatisfiable),
+            Line::Values(numbers) => *self = self.on_values(numbers, given),
+            Line::Broken => *self = self.in_phase(Phase::Broken),
         }
     }
 
@@ -140,7 +140,7 @@ impl State {
         let mut rest = text;
         while let Some(end) = line_end(rest) {
             let (line, behind) = rest.split_at(end);
-            here = here.after_line(line, given);
+            here.take_line(line, given);
             rest = &behind[1..];
         }
         // bytes behind the last line feed break the answer

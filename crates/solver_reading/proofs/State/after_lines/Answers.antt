@@ -10,7 +10,7 @@ use Rattle.solver_reading.proofs.State.after_lines.Goals as goal
 pub loop-end-preserved : goal.loop-end-preserved
 loop-end-preserved c =
     let l = c.loop-end in
-    lines_turn (length l.given) (run l.here l.given) l.rest.now l.invariant c.line_end.ensures c.in-Some.is (search rules) c.split_at.ensures.front (behind_feed l.rest.now _ c.in-Some.end c.split_at.ensures.back) c.after_line-here.ensures
+    lines_turn (length l.given) (run l.here l.given) l.rest.now l.invariant c.line_end.ensures c.in-Some.is (search rules) c.split_at.ensures.front (behind_feed l.rest.now _ c.in-Some.end c.split_at.ensures.back) c.take_line.ensures
 
 pub returns-then-is_empty : goal.returns-then-is_empty
 returns-then-is_empty c =
