@@ -10,7 +10,7 @@ use lines::{Line, Word};
 use refusal::Refusal;
 use std::io;
 
-// The greatest height that a sum reaches.
+// The greatest height that a sum reaches. (Not inlined, so that other lines do not pay for the room of the terms.)
 #[inline(never)]
 fn sum_height(nums: &[i64], env: EncoderEnv, lits: usize, ends: usize) -> Option<u32> {
     let mut terms = [0i32; 4096];

@@ -185,7 +185,7 @@ fn size_mul<R: Print>(rt: &R, nums: &[i64], env: &EncoderEnv) -> Result<(), Stop
     sized(rt, script_calls::size_mul(nums, *env), env)
 }
 
-// Every word but `stores`. What takes a job by value is a function of its own, so that a line pays for its own word alone.
+// Every word but `stores`. What takes a job by value is a function of its own and not inlined, so that a line pays for its own word alone.
 pub fn answer<R: Print>(
     rt: &R,
     word: Word,
