@@ -12,10 +12,14 @@ pub fn bad_line<R: Print>(rt: &R, number: u64) -> io::Result<()> {
     rt.write_all(b"\n")
 }
 
-// A number behind a space.
+// A number behind a space. Most entries of a store have one digit.
 fn put_number(w: &mut Writer, n: u32) {
     w.put(b' ');
-    w.put_decimal(n);
+    if n < 10 {
+        w.put(b'0' + n as u8);
+    } else {
+        w.put_decimal(n);
+    }
 }
 
 // A signed number behind a space.
