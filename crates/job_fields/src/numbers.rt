@@ -28,7 +28,7 @@ pub fn signed_long(s: &[u8], i: usize) -> i32
 
 // The values, put into the first entries of `out`, if there is room: how many they are.
 pub fn values(s: &[u8], out: &mut [i32]) -> Option<usize>
-    ensures { MatchOption result (length out.old < length s.now / 2) (λ n. (n ≤ length out.new) × (take n out.new ≡ Numbers·values s.now)) }
+    ensures { MatchOption result (length out.old < length s.now / 2) (λ n. (n ≡ length s.now / 2) × (n ≤ length out.new) × (take n out.new ≡ Numbers·values s.now)) }
 {
     if out.len() < s.len() / 2 {
         return None;
@@ -41,7 +41,7 @@ pub fn values(s: &[u8], out: &mut [i32]) -> Option<usize>
 
 // The terms, put into the first entries of `out`, if there is room, setting and coefficient in turn: how many numbers they are.
 pub fn terms(s: &[u8], out: &mut [i32]) -> Option<usize>
-    ensures { MatchOption result (length out.old < 2 * (length s.now / 3)) (λ n. (n ≤ length out.new) × (take n out.new ≡ Numbers·terms s.now)) }
+    ensures { MatchOption result (length out.old < 2 * (length s.now / 3)) (λ n. (n ≡ 2 * (length s.now / 3)) × (n ≤ length out.new) × (take n out.new ≡ Numbers·terms s.now)) }
 {
     if out.len() < 2 * (s.len() / 3) {
         return None;

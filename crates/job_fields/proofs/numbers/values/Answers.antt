@@ -1,7 +1,7 @@
 -- `job_fields::numbers::values` meets its contract.
 use Prim.Native.Nat.{◌/◌}
 use lib.ListN.{length}
-use mathlib.Core.Path.{◌≡◌}
+use mathlib.Core.Path.{◌≡◌, refl}
 use mir.Syntax.{w32}
 use mir.Val.{SFits}
 use mir.ValLaws.{to_z-of_z}
@@ -24,4 +24,4 @@ returns c =
     let l = c.loop-i in
     let e : l.i ≡ length s / 2 = omega (arith, l.invariant.0, c.loop-i-test.false) in
     let p = rw (values_end s l.i c.loop-i-test.false) at l.invariant.1 in
-    (omega (arith, p.long), rw e at (putting_end p))
+    (refl, omega (arith, p.long), rw e at (putting_end p))

@@ -14,7 +14,7 @@ returns-in-Some c =
     let a = c.args in
     c.linear_figures.ensures
     ∙ linear_called a.env a.s.now c.from-op.ensures (to_z-of_z w32 _ (record { sfits = c.signed_long-constant.type_inv }) ∙ c.signed_long-constant.ensures)
-    (rw (behind_five a.s.now) at c.in-Some.ensures.1)
+    (rw (behind_five a.s.now) at c.in-Some.ensures.2)
 
 pub returns-in-None : goal.returns-in-None
 returns-in-None c =

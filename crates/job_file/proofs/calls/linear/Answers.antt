@@ -12,7 +12,7 @@ pub returns-in-Some : goal.returns-in-Some
 returns-in-Some c =
     let a = c.args in
     linear_called a.env a.lits.now a.ends.now a.s.now c.from-op.ensures (to_z-of_z w32 _ (record { sfits = c.signed_long-constant.type_inv }) ∙ c.signed_long-constant.ensures)
-    (rw (behind_five a.s.now) at c.in-Some.ensures.1) c.encode_linear.ensures
+    (rw (behind_five a.s.now) at c.in-Some.ensures.2) c.encode_linear.ensures
 
 pub returns-in-None : goal.returns-in-None
 returns-in-None c =

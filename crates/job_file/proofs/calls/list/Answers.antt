@@ -8,7 +8,7 @@ use Rattle.job_file.proofs.calls.list.Goals as goal
 pub returns-in-Some : goal.returns-in-Some
 returns-in-Some c =
     let a = c.args in
-    list_called a.env a.lits.now a.ends.now a.s.now c.in-Some.ensures.1 c.encode_list.ensures
+    list_called a.env a.lits.now a.ends.now a.s.now c.in-Some.ensures.2 c.encode_list.ensures
 
 pub returns-in-None : goal.returns-in-None
 returns-in-None c =
