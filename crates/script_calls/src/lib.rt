@@ -1,5 +1,5 @@
 // A line of a script as a call of the encoder, on the job and the lent stores. Nothing is printed. Each function answers None where the line
-// cannot be read. None is inlined, so that a line pays for the arrays and the jobs of its own word alone.
+// cannot be read. Those of words that have arrays of their own or copy the job are not inlined, so that a line pays for its own word alone.
 #![tactic(auto)]
 
 mod answers;
