@@ -14,9 +14,20 @@ use text::Writer;
 #[derive(Clone, Copy, Debug, PartialEq, Eq)]
 pub struct TooLong;
 
-// Prints the values that the first m bytes of `answer` give to the job file in the first n bytes of `file` at the start of `out`, and answers
-// how many bytes they have. An answer that is too long is told before the file is run.
-pub fn print_values(
+// Prints the values that a solver's answer gives to a job file at the start of `out`, and answers how many bytes they have. An answer that is
+// too long is told before the file is run.
+pub fn print_values(file: &[u8], answer: &[u8], out: &mut [u8]) -> Result<usize, TooLong>
+    requires { 1440 ≤ length out.old }
+    ensures { Told result file.now answer.now out.old out.new }
+{
+    if 1048576 < answer.len() {
+        return Err(TooLong);
+    }
+    Ok(put_program_values(file, answer, out))
+}
+
+// The same for a program's buffers: the first n bytes of `file` are the job file, the first m bytes of `answer` the answer.
+pub fn print_program_values(
     file: &[u8],
     n: usize,
     answer: &[u8],
@@ -123,4 +134,29 @@ fn put_tested_values(
         return dimacs::print_refused(out, field, e.number());
     }
     values_text::put_values(out, env, lits, ends, assignment)
+}
+
+#[cfg(test)]
+mod tests {
+    use super::*;
+
+    // Slices just as long as what they hold. The texts are the judge's.
+    #[test]
+    fn print_values_of_short_slices(rt: HostRuntime) {
+        let rows: [(&[u8], &[u8], &[u8]); 4] = [
+            (
+                b"\x01\0\x01\x01",
+                b"s SATISFIABLE\nv -1 0\n",
+                b"switch 0 no\n",
+            ),
+            (b"\x01\0\x01\x01", b"s UNSATISFIABLE\n", b"none\n"),
+            (b"\x01\0\x01\x01", b"", b"refused 1 19\n"),
+            (b"\x01\0\x01", b"", b"refused 0 18\n"),
+        ];
+        for (file, answer, text) in rows {
+            let mut out = [0u8; 1440];
+            assert_eq!(rt; print_values(file, answer, &mut out), Ok(text.len()));
+            assert_eq!(rt; out.get(..text.len()), Some(text));
+        }
+    }
 }

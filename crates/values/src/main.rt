@@ -42,7 +42,7 @@ fn run<R: Env + Files + io::Input + Print + Eprint>(rt: &R, file: &mut [u8], ans
         streams::cannot_read(rt);
         return;
     };
-    let Ok(size) = job_values::print_values(file, n, answer, m, &mut out) else {
+    let Ok(size) = job_values::print_program_values(file, n, answer, m, &mut out) else {
         let _ = rt.eprintln("the answer is longer than 1048576 bytes");
         return;
     };
